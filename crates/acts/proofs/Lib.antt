@@ -1,0 +1,2 @@
+-- The laws of `acts` that others cite.
+pub mod Laws

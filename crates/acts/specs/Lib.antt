@@ -1,0 +1,2 @@
+-- The definitions of `acts`.
+pub mod Act

@@ -1,0 +1,3 @@
+-- The laws of `cell` that others cite.
+pub mod Laws
+mod Bits

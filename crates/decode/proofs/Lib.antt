@@ -1,0 +1,3 @@
+-- The laws of `decode` that others cite, and the paper's examples.
+pub mod Laws
+pub mod Examples

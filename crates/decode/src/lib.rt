@@ -1,0 +1,146 @@
+// The decoder: the pair rules over a state by value and lent cells, and the two acts of a desk.
+// A pair of two characters goes straight to `typing::write`; only control pairs go through the dispatcher of codes.
+use codes::Code;
+use state::State;
+ghost use mathlib.Core.Path.{_≡_};
+ghost use mathlib.Core.Bool.{true};
+ghost use Prim.Native.Nat.{_≤_, _<_};
+ghost use lib.ListN.{length};
+ghost use Rattle.cell.specs.Code.{isCode};
+ghost use Rattle.codes.specs.Codes.{codeOf};
+ghost use Rattle.state.specs.State.{captions, desk};
+ghost use Rattle.state.specs.Ranges.{Sound};
+ghost use Rattle.decode.specs.Pair.{told, typeOf, asTextOf, ruleOneOf, controlOf, ruleThreeOf, pairOf};
+ghost use Rattle.decode.specs.Step.{takenOf, selectOf};
+
+// No pair is expected any more.
+fn cleared(mut state: State) -> State
+    ensures { λ r. ⌜ r ≡ told state (state .stream) 0 0 ⌝ }
+{
+    state.first = 0;
+    state.second = 0;
+    state
+}
+
+// The one gate for writing.
+fn type_code(mut state: State, cells: &mut [u8], code: u8) -> State
+    requires { ⌜ Sound (captions (state .mode) (now cells)) ⌝ }
+    ensures { λ r. ⌜ desk r (now (cells .exit)) ≡ typeOf (desk state (now (cells .entry))) code ⌝ }
+{
+    let mode = state.mode;
+    if (state.stream == state.selected) & mode.is_ready() {
+        let next = typing::write(mode, cells, code);
+        state.mode = next;
+        return state;
+    }
+    state
+}
+
+// A byte as text.
+fn as_text(state: State, cells: &mut [u8], y: u8) -> State
+    requires { ⌜ Sound (captions (state .mode) (now cells)) ⌝ }
+    ensures { λ r. ⌜ desk r (now (cells .exit)) ≡ asTextOf (desk state (now (cells .entry))) y ⌝ }
+{
+    if wire::is_good(y) {
+        let b = wire::low_seven(y);
+        if b < 0x20 {
+            return state;
+        }
+        return type_code(state, cells, b);
+    }
+    type_code(state, cells, 0x7f)
+}
+
+// A code, then the second byte as text.
+fn type_both(state: State, cells: &mut [u8], code: u8, y: u8) -> State
+    requires { ⌜ Sound (captions (state .mode) (now cells)) × (isCode code ≡ true) × (1 ≤ code) ⌝ }
+    ensures { λ r. ⌜ desk r (now (cells .exit)) ≡ asTextOf (typeOf (desk state (now (cells .entry))) code) y ⌝ }
+{
+    let typed = type_code(state, cells, code);
+    as_text(typed, cells, y)
+}
+
+// Rule 1: the first byte is bad.
+fn rule_one(state: State, cells: &mut [u8], y: u8) -> State
+    requires { ⌜ Sound (captions (state .mode) (now cells)) ⌝ }
+    ensures { λ r. ⌜ desk r (now (cells .exit)) ≡ ruleOneOf (desk state (now (cells .entry))) y ⌝ }
+{
+    let open = cleared(state);
+    if (1 <= state.first) & wire::is_good(y) & (wire::low_seven(y) == state.second) {
+        return open;
+    }
+    type_both(open, cells, 0x7f, y)
+}
+
+// An assigned pair: the stream's channel, the expected pair, and the act if the channel is the selected one.
+fn control(mut state: State, cells: &mut [u8], a: u8, b: u8, code: Code) -> State
+    requires { ⌜ Sound (captions (state .mode) (now cells)) × (0x10 ≤ a) × (a ≤ 0x1f) × (0x20 ≤ b) × (b ≤ 0x7f) × (code ≡ codeOf a b) ⌝ }
+    ensures { λ r. ⌜ desk r (now (cells .exit)) ≡ controlOf (desk state (now (cells .entry))) a b ⌝ }
+{
+    let channel = codes::channel(a);
+    state.stream = channel;
+    state.first = a;
+    state.second = b;
+    if channel == state.selected {
+        let mode = state.mode;
+        let next = acts::act(mode, cells, code);
+        state.mode = next;
+        return state;
+    }
+    state
+}
+
+// Rule 3: a control pair.
+fn rule_three(state: State, cells: &mut [u8], a: u8, y: u8) -> State
+    requires { ⌜ Sound (captions (state .mode) (now cells)) × (0x10 ≤ a) × (a ≤ 0x1f) ⌝ }
+    ensures { λ r. ⌜ desk r (now (cells .exit)) ≡ ruleThreeOf (desk state (now (cells .entry))) a y ⌝ }
+{
+    let open = cleared(state);
+    let b = wire::low_seven(y);
+    let repeat = (a == state.first) & (b == state.second);
+    if !wire::is_good(y) | (b < 0x20) | repeat {
+        return open;
+    }
+    let code = codes::classify(a, b);
+    if codes::is_unassigned(code) {
+        return open;
+    }
+    control(open, cells, a, b, code)
+}
+
+// What two raw bytes do.
+pub fn pair(state: State, cells: &mut [u8], x: u8, y: u8) -> State
+    requires { ⌜ Sound (captions (state .mode) (now cells)) ⌝ }
+    ensures { λ r. ⌜ desk r (now (cells .exit)) ≡ pairOf (desk state (now (cells .entry))) x y ⌝ }
+{
+    let a = wire::low_seven(x);
+    if wire::is_good(x) {
+        if a < 0x10 {
+            return as_text(cleared(state), cells, y);
+        }
+        if a < 0x20 {
+            return rule_three(state, cells, a, y);
+        }
+        return type_both(cleared(state), cells, a, y);
+    }
+    rule_one(state, cells, y)
+}
+
+// A pair as an act: it counts.
+pub fn take(state: State, cells: &mut [u8], x: u8, y: u8) -> State
+    requires { ⌜ Sound (captions (state .mode) (now cells)) × (state .acts < 65535) ⌝ }
+    ensures { λ r. ⌜ desk r (now (cells .exit)) ≡ takenOf (desk state (now (cells .entry))) x y ⌝ }
+{
+    let mut next = pair(state, cells, x, y);
+    next.acts = state.acts + 1;
+    next
+}
+
+// The selection of a channel as an act.
+pub fn select(state: State, cells: &mut [u8], channel: u8) -> State
+    requires { ⌜ (length (now cells) ≡ 1920) × (state .acts < 65535) ⌝ }
+    ensures { λ r. ⌜ desk r (now (cells .exit)) ≡ selectOf (desk state (now (cells .entry))) channel ⌝ }
+{
+    facts::blank(cells);
+    state.select(channel)
+}

@@ -1,0 +1,5 @@
+-- The laws of `facts` that others cite.
+pub mod Choice
+pub mod Every
+pub mod Over
+mod Halves

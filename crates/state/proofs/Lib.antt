@@ -1,0 +1,2 @@
+-- The laws of `state` that others cite.
+pub mod Laws

@@ -1,0 +1,2 @@
+-- The laws of `styles` that others cite.
+pub mod Laws

@@ -1,0 +1,25 @@
+-- `cr` meets its contract. Assumes nothing.
+use native.Mathlib.Omega.{arith}
+use borrow.Author.Tests.{eq-eqb, ne-eqb}
+use borrow.Author.Needs.{needs}
+use Rattle.styles.specs.Styles.{crOf}
+use Rattle.styles.proofs.cr.Statement.{statement}
+use Rattle.styles.proofs.cr.Tie as tie
+
+roll-requires : tie.Need-roll-requires
+roll-requires c κs =
+    let s = c .before .before .before .before .before in
+    let r = s .pre .ranged in
+    let deep = r .style .deep (r .style .rolls (c .before .before .before .if1 .taken)) in
+    (search needs, r .roll .place .row-low, r .roll .place .row-high, omega arith)
+
+returns : tie.Need-returns
+unfolding crOf
+returns c = simp (eq-eqb _ _ (c .before .before .before .before .before .before .before .if1 .taken)) (cc)
+
+returns-2 : tie.Need-returns-2
+unfolding crOf
+returns-2 c = simp (ne-eqb _ _ (c .if1 .left))
+
+pub cr-spec : {M : Type 1} → statement M
+cr-spec = tie.close (tie.spec roll-requires (λ c κs. search needs) (λ c. search needs) returns returns-2)

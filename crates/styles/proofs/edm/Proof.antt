@@ -1,0 +1,12 @@
+-- `edm` meets its contract. Assumes nothing.
+use borrow.Author.Needs.{needs}
+use Rattle.styles.specs.Styles.{edmOf}
+use Rattle.styles.proofs.edm.Statement.{statement}
+use Rattle.styles.proofs.edm.Tie as tie
+
+returns : tie.Need-returns
+unfolding edmOf
+returns c = cc
+
+pub edm-spec : {M : Type 1} → statement M
+edm-spec = tie.close (tie.spec (λ c κs. search needs) (λ c. search needs) returns)

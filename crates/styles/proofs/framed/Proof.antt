@@ -1,0 +1,12 @@
+-- `framed` meets its contract. Assumes nothing.
+use borrow.Author.Needs.{needs}
+use Rattle.styles.specs.Styles.{framedOf}
+use Rattle.styles.proofs.framed.Statement.{statement}
+use Rattle.styles.proofs.framed.Tie as tie
+
+returns : tie.Need-returns
+unfolding framedOf
+returns c = cc
+
+pub framed-spec : {M : Type 1} → statement M
+framed-spec = tie.close (tie.spec (λ c κs. search needs) (λ c κs. search needs) (λ c. search needs) returns)

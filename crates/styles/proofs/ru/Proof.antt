@@ -1,0 +1,16 @@
+-- `ru` meets its contract. Assumes nothing.
+use borrow.Author.Needs.{needs}
+use Rattle.styles.specs.Styles.{ruOf}
+use Rattle.styles.proofs.Laws.{openedOf-sound}
+use Rattle.styles.proofs.ru.Statement.{statement}
+use Rattle.styles.proofs.ru.Tie as tie
+
+framed-requires : tie.Need-framed-requires
+framed-requires c κs = rw (c .before .before .before .opened .ensures) (openedOf-sound _ (c .before .before .before .before .before .before .pre))
+
+returns : tie.Need-returns
+unfolding ruOf
+returns c = cc
+
+pub ru-spec : {M : Type 1} → statement M
+ru-spec = tie.close (tie.spec (λ c κs. search needs) framed-requires (λ c. search needs) returns)

@@ -1,0 +1,2 @@
+-- The definitions of `styles`.
+pub mod Styles

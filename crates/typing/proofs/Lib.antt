@@ -1,0 +1,2 @@
+-- The laws of `typing` that others cite.
+pub mod Laws

@@ -1,0 +1,18 @@
+-- `preamble` meets its contract. Assumes nothing.
+use borrow.Author.Tests.{eq-eqb, ne-eqb}
+use borrow.Author.Needs.{needs}
+use Rattle.typing.specs.Typing.{preambleOf, turnedOf}
+use Rattle.typing.proofs.preamble.Statement.{statement}
+use Rattle.typing.proofs.preamble.Tie as tie
+
+returns : tie.Need-returns
+unfolding preambleOf
+returns c = simp (eq-eqb _ _ (c .before .before .before .before .if1 .taken)) (c .before .before .moved .ensures)
+
+returns-2 : tie.Need-returns-2
+unfolding preambleOf turnedOf
+returns-2 c = simp (ne-eqb _ _ (c .before .if1 .left)) (cc)
+
+pub preamble-spec : {M : Type 1} → statement M
+preamble-spec =
+    tie.close (tie.spec (λ c κs. search needs) (λ c. search needs) returns (λ c κs. search needs) returns-2)

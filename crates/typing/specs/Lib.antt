@@ -1,0 +1,2 @@
+-- The definitions of `typing`.
+pub mod Typing

@@ -1,0 +1,116 @@
+// What is typed at the style's cursor.
+use cell::Cursor;
+use cell::pens::flash_pen;
+use cell::pens::mid_row_pen;
+use state::Mode;
+use state::ROLL_UP;
+ghost use mathlib.Core.Path.{_≡_};
+ghost use mathlib.Core.Bool.{true};
+ghost use mathlib.Core.List.{List};
+ghost use Prim.Native.Nat.{ℕ, _≤_};
+ghost use Rattle.cell.specs.Pen.{isPen};
+ghost use Rattle.cell.specs.Cursor.{Placed};
+ghost use Rattle.state.specs.State.{captions};
+ghost use Rattle.state.specs.Ranges.{Ranged, Sound};
+ghost use Rattle.typing.specs.Typing.{writeOf, attributeOf, midRowOf, fonOf, bsOf, derOf, tabbedOf, movedOf, preambleOf};
+
+// The cell gets code and pen; the cursor goes on.
+pub fn write(mode: Mode, cells: &mut [u8], code: u8) -> Mode
+    requires { ⌜ Sound (captions mode (now cells)) ⌝ }
+    ensures { λ r. ⌜ captions r (now (cells .exit)) ≡ writeOf (captions mode (now (cells .entry))) code ⌝ }
+{
+    let c = mode.cursor();
+    let row = c.row;
+    let column = c.column;
+    page::write_cell(cells, mode.memory(), row, column, code, c.pen);
+    mode.with_cursor(c.after_write())
+}
+
+// The pen changes, then an attribute space is written with it.
+fn attribute(mode: Mode, cells: &mut [u8], pen: u8) -> Mode
+    requires { ⌜ Sound (captions mode (now cells)) × (isPen pen ≡ true) ⌝ }
+    ensures { λ r. ⌜ captions r (now (cells .exit)) ≡ attributeOf (captions mode (now (cells .entry))) pen ⌝ }
+{
+    let c = mode.cursor();
+    let turned = mode.with_cursor(c.with_pen(pen));
+    write(turned, cells, 0x80)
+}
+
+pub fn mid_row(mode: Mode, cells: &mut [u8], b: u8) -> Mode
+    requires { ⌜ Sound (captions mode (now cells)) × (0x20 ≤ b) × (b ≤ 0x2f) ⌝ }
+    ensures { λ r. ⌜ captions r (now (cells .exit)) ≡ midRowOf (captions mode (now (cells .entry))) b ⌝ }
+{
+    let c = mode.cursor();
+    attribute(mode, cells, mid_row_pen(c.pen, b))
+}
+
+pub fn fon(mode: Mode, cells: &mut [u8]) -> Mode
+    requires { ⌜ Sound (captions mode (now cells)) ⌝ }
+    ensures { λ r. ⌜ captions r (now (cells .exit)) ≡ fonOf (captions mode (now (cells .entry))) ⌝ }
+{
+    let c = mode.cursor();
+    attribute(mode, cells, flash_pen(c.pen))
+}
+
+// At column 1 nothing; else one left, and that cell is emptied.
+pub fn bs(mode: Mode, cells: &mut [u8]) -> Mode
+    requires { ⌜ Sound (captions mode (now cells)) ⌝ }
+    ensures { λ r. ⌜ captions r (now (cells .exit)) ≡ bsOf (captions mode (now (cells .entry))) ⌝ }
+{
+    let c = mode.cursor();
+    let at = c.column.0;
+    if at <= 1 {
+        return mode;
+    }
+    let left = c.back();
+    let row = left.row;
+    let column = left.column;
+    page::empty_cell(cells, mode.memory(), row, column);
+    mode.with_cursor(left)
+}
+
+// From the cursor's cell to the end of its row.
+pub fn der(mode: Mode, cells: &mut [u8]) -> Mode
+    requires { ⌜ Sound (captions mode (now cells)) ⌝ }
+    ensures { λ r. ⌜ captions r (now (cells .exit)) ≡ derOf (captions mode (now (cells .entry))) ⌝ }
+{
+    let c = mode.cursor();
+    let row = c.row;
+    let column = c.column;
+    page::empty_from(cells, mode.memory(), row, column);
+    mode
+}
+
+// Right by n columns; the cells skipped are kept.
+pub fn tabbed(mode: Mode, n: u8) -> Mode
+    requires { ⌜ Ranged mode × (n ≤ 32) ⌝ }
+    ensures { λ r. ⌜ ((d : List ℕ) → captions r d ≡ tabbedOf (captions mode d) n) ⌝ }
+{
+    let c = mode.cursor();
+    mode.with_cursor(c.tab(n))
+}
+
+// The window moves to the new base row.
+fn moved(mut mode: Mode, cells: &mut [u8], to: Cursor) -> Mode
+    requires { ⌜ Sound (captions mode (now cells)) × Placed to ⌝ }
+    ensures { λ r. ⌜ captions r (now (cells .exit)) ≡ movedOf (captions mode (now (cells .entry))) to ⌝ }
+{
+    let from = mode.roll;
+    let old = from.row;
+    let new = to.row;
+    page::move_window(cells, page::DISPLAYED, old, new, mode.depth);
+    mode.roll = to;
+    mode
+}
+
+// Row, column and pen of the style's cursor.
+pub fn preamble(mode: Mode, cells: &mut [u8], to: Cursor) -> Mode
+    requires { ⌜ Sound (captions mode (now cells)) × Placed to ⌝ }
+    ensures { λ r. ⌜ captions r (now (cells .exit)) ≡ preambleOf (captions mode (now (cells .entry))) to ⌝ }
+{
+    let style = mode.style;
+    if style == ROLL_UP {
+        return moved(mode, cells, to);
+    }
+    mode.with_cursor(to)
+}

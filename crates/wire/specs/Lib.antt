@@ -1,0 +1,5 @@
+-- The definitions of `wire`, in reading order.
+pub mod Byte
+pub mod Line
+pub mod Numbers
+pub mod Written
