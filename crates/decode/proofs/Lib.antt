@@ -1,3 +1,2 @@
--- The laws of `decode` that others cite, and the paper's examples.
+-- The laws of `decode` that others cite.
 pub mod Laws
-pub mod Examples

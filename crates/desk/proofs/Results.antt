@@ -1,0 +1,61 @@
+-- The archive's three demands, as they stand here, each proved by a citation. The register's part of demand 2 stands with the register. Assumes nothing.
+use mathlib.Core.Path.{_≡_}
+use mathlib.Core.Bool.{true}
+use mathlib.Core.List.{List, []}
+use Prim.Native.Nat.{ℕ, _-_, _<_}
+use lib.Dec.{leb, ltb}
+use lib.ListN.{getD}
+use Rattle.facts.specs.Choice.{pick}
+use Rattle.state.specs.State.{Desk}
+use Rattle.decode.specs.Step.{takenOf}
+use Rattle.record.specs.Layout.{readOf, recordOf}
+use Rattle.record.specs.Valid.{isValid}
+use Rattle.record.proofs.Laws.{readOf-recordOf, recordOf-readOf}
+use Rattle.standing.specs.Acts.{Act, isAllowed}
+use Rattle.standing.specs.Calls.{Buffers, opened, refused, isFit, isReplayable, openOf, giveOf, takeOf, backOf}
+use Rattle.standing.specs.Runs.{Ask, Call, callOf, after, Fair, alone, standing}
+use Rattle.standing.proofs.Runs.{refusal}
+use Rattle.standing.proofs.Standing.{what-stands-remains}
+use Rattle.tray.specs.Captions.{countOf, captionDecoder}
+use Rattle.tray.proofs.Laws.{captionDecoder-lawful}
+use Rattle.desk.proofs.Laws.{openOf-number, giveOf-number, backOf-number, takeOf-desk}
+
+-- DEMAND 1. "every call takes every input and ends": no public call of this crate has a requires, and each is proved to end.
+-- "a wrong length, a wrong channel, a damaged record, a full log or a step back too far gets the numbered refusal of the paper, exactly then":
+pub open-refused-when : (w : Buffers) → openOf captionDecoder (w .desk) (w .log) (w .tray) .given .number ≡ pick (isFit captionDecoder w) 0 1
+open-refused-when = openOf-number
+
+pub act-refused-when : (w : Buffers) (a : Act) → giveOf captionDecoder w a .given .number
+    ≡ pick (isFit captionDecoder w) (pick (isValid (w .desk)) (pick (isAllowed a) (pick (ltb (countOf (readOf (w .desk))) 16000) 0 3) 2) 6) 1
+act-refused-when = giveOf-number
+
+pub back-refused-when : (w : Buffers) (k : ℕ) → backOf captionDecoder (w .desk) (w .log) (w .tray) k .given .number
+    ≡ pick (isFit captionDecoder w)
+    (pick (isValid (w .desk))
+    (pick (leb k (countOf (readOf (w .desk)))) (pick (isReplayable captionDecoder (w .log) (w .tray) (countOf (readOf (w .desk)) - k)) 0 6) 4) 6)
+    1
+back-refused-when = backOf-number
+
+-- "and each lent buffer keeps its bytes."
+pub refusal-keeps-bytes : (w : Buffers) (a : Ask) → (callOf captionDecoder w a .given .number ≡ 0 → ⊥)
+    → callOf captionDecoder w a ≡ refused (callOf captionDecoder w a .given .number) w
+refusal-keeps-bytes = refusal captionDecoder
+
+-- DEMAND 2. "After each pair both caption memories, the cursors, the pens and the style are what the paper says": the record holds the desk after the pair rules.
+pub after-each-pair : (w : Buffers) (x y : ℕ) → isFit captionDecoder w ≡ true → isValid (w .desk) ≡ true → countOf (readOf (w .desk)) < 16000
+    → takeOf captionDecoder (w .desk) (w .log) (w .tray) x y .left .desk ≡ recordOf (takenOf (readOf (w .desk)) x y)
+after-each-pair = takeOf-desk
+
+-- ".. records are read and written to the paper's layout and come back unchanged"
+pub desk-comes-back : (d : Desk) → readOf (recordOf d) ≡ d
+desk-comes-back = readOf-recordOf
+
+pub record-comes-back : (bs : List ℕ) → isValid bs ≡ true → getD bs 0 0 < 256 → recordOf (readOf bs) ≡ bs
+record-comes-back = recordOf-readOf
+
+-- DEMAND 3. "From a newly opened desk, after any run of pairs, channel selections and steps back, refused calls among them, with its own three buffers lent to
+-- every call that is not refused and nobody else writing to them, desk, log and tray hold byte for byte what a newly opened desk would hold had it been given
+-- only the pairs and selections that still stand; a step back by k removes the last k of those standing."
+pub what-stands : (cs : List Call) → Fair captionDecoder (opened captionDecoder) cs
+    → after captionDecoder (opened captionDecoder) cs ≡ after captionDecoder (opened captionDecoder) (alone (standing captionDecoder (opened captionDecoder) [] cs))
+what-stands = what-stands-remains captionDecoder captionDecoder-lawful

@@ -1,0 +1,83 @@
+-- The laws of the register's lines that callers cite: texts one behind the other, how long lines are, and that an empty screen prints none. Assumes nothing.
+use mathlib.Core.Path.{_≡_, refl, ap, sym, _∙_}
+use mathlib.Core.Bool.{true}
+use mathlib.Core.List.{List, [], _∷_, _++_}
+use Prim.Native.Nat.{ℕ, zero, suc, _+_, _*_, _<_, _≤_}
+use native.Mathlib.Nat.{suc-add, zero-add}
+use native.Mathlib.Omega.{arith}
+use lib.ListN.{length, getD, length-append}
+use borrow.Author.Tests.{eq-eqb}
+use Rattle.facts.specs.Over.{over}
+use Rattle.facts.proofs.Over.{over-nil}
+use Rattle.cell.specs.Place.{rowNumber, rowAt}
+use Rattle.page.specs.Page.{displayed, isEmptyOf}
+use Rattle.page.proofs.Laws.{isEmptyOf-at}
+use Rattle.lines.specs.Span.{codeAt, endMoreOf, endOf}
+use Rattle.lines.specs.Line.{codesOf, frameOf, rowOf, headOf, Run, rowLineOf, topLinesOf, linesOf, refusedOf, Put}
+
+-- Texts written one behind the other are one text.
+
+over-join : (d : List ℕ) (at : ℕ) (s t : List ℕ) → over (over d at s) (at + length s) t ≡ over d at (s ++ t)
+over-join [] at s t = refl
+over-join (x ∷ d) (suc at) s t = rw suc-add (ap (λ (l : List ℕ). x ∷ l) (over-join d at s t))
+over-join (x ∷ d) zero [] t = refl
+over-join (x ∷ d) zero (v ∷ s) t = rw zero-add (ap (λ (l : List ℕ). v ∷ l) (rw zero-add at (over-join d zero s t)))
+
+-- a text behind a text
+pub over-then : (d : List ℕ) (n : ℕ) (s t : List ℕ) (k : ℕ) {o p : List ℕ} → k ≡ n + length s → o ≡ over d n s → p ≡ over o k t → p ≡ over d n (s ++ t)
+over-then d n s t k e f g = g ∙ (λ i. over (f i) (e i) t) ∙ over-join d n s t
+
+-- and so are two calls that print
+pub put-then : {d o left s t : List ℕ} {n k m a b : ℕ} → Put d n s a o k → Put o k t b left m → Put d n (s ++ t) (a + b) left m
+put-then {d} {s = s} {t = t} {n = n} {k = k} p q =
+    let next = p .next in
+    let last = q .next in
+    let small = p .room in
+    let most = q .room in
+    record { bytes = over-then d n s t k next (p .bytes) (q .bytes); next = omega (arith, length-append s t); room = omega arith }
+
+-- where there is nothing to print
+pub put-nothing : (d : List ℕ) (n most : ℕ) {text : List ℕ} → text ≡ [] → Put d n text most d n
+put-nothing d n most e = record { bytes = sym (over-nil d n) ∙ ap (over d n) (sym e); next = omega (arith, ap length e); room = omega arith }
+
+-- How long lines are.
+
+pub length-codesOf : (s : List ℕ) (at from n : ℕ) → length (codesOf s at from n) ≡ n * 2
+unfolding codesOf
+length-codesOf s at from zero = refl
+length-codesOf s at from (suc n) = simp length-append (omega (arith, length-codesOf s at from n))
+
+pub length-frameOf : (frame : ℕ) → length (frameOf frame) ≡ 6
+unfolding frameOf
+length-frameOf frame = refl
+
+pub length-headOf : (from to row : ℕ) → length (headOf from to row) ≡ 15
+unfolding headOf frameOf rowOf
+length-headOf from to row = refl
+
+pub length-refusedOf : (frame number : ℕ) → length (refusedOf frame number) ≡ 16
+unfolding refusedOf frameOf
+length-refusedOf frame number = refl
+
+-- A screen that is all empty prints nothing.
+
+endOf-none : (s : List ℕ) (at n : ℕ) → ((k : ℕ) → k < n → codeAt s at k ≡ 0) → endOf s at n ≡ 0
+unfolding endOf endMoreOf
+endOf-none s at zero h = refl
+endOf-none s at (suc n) h = simp (eq-eqb _ _ (h n (omega arith))) (endOf-none s at n (λ k l. h k (omega arith)))
+
+module _ (r : Run) (empty : isEmptyOf (r .screen) displayed ≡ true) where
+  row-none : (row : ℕ) → 1 ≤ row → row ≤ 15 → rowLineOf r row ≡ []
+  unfolding rowLineOf
+  row-none row low high =
+      let at = rowAt displayed (rowNumber row) in
+      let e = endOf-none (r .screen) at 32 (λ k h. ap (λ (i : ℕ). getD (r .screen) i 0) (sym (zero-add (at + k * 2))) ∙ isEmptyOf-at (r .screen) displayed (at + k * 2) empty (omega arith)) in
+      simp (eq-eqb _ _ e)
+
+  top-none : (n : ℕ) → n ≤ 15 → topLinesOf r n ≡ []
+  unfolding topLinesOf
+  top-none zero h = refl
+  top-none (suc n) h = (λ i. top-none n (omega arith) i ++ row-none (n + 1) (omega arith) (omega arith) i)
+
+  pub linesOf-empty : linesOf r ≡ []
+  linesOf-empty = top-none 15 (omega arith)

@@ -1,0 +1,13 @@
+-- `loikrasun_take` meets its contract. Assumes nothing.
+use borrow.Author.Needs.{needs}
+use Rattle.loikrasun.proofs.Laws.{ended-packed}
+use Rattle.loikrasun.proofs.loikrasun_take.Statement.{statement}
+use Rattle.loikrasun.proofs.loikrasun_take.Tie as tie
+
+returns : tie.Need-returns
+returns c = ended-packed (c .pack-answer .ensures) (c .before .before .before .before .before .before .before .take .ensures)
+
+pub loikrasun-take-spec : {M : Type 1} → statement M
+loikrasun-take-spec =
+    tie.close
+    (tie.spec (λ c κs. search needs) (λ c κs. search needs) (λ c. search needs) (λ c. search needs) (λ c. search needs) returns)

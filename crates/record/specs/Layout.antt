@@ -1,0 +1,64 @@
+-- The desk as one record of 1,984 bytes: which byte holds what, written and read.
+-- Paper 01, "Record, log, tray", first paragraph, and the last sentence of the second.
+-- Assumes nothing.
+use Prim.Native.Nat.{ℕ, _+_, _*_, _/_, _%_}
+use mathlib.Core.List.{List, [], _∷_, _++_}
+use lib.ListN.{getD, drop, replicate}
+use Rattle.cell.specs.declared.Cursor.{Cursor}
+use Rattle.cell.specs.Place.{rowNumber, columnNumber}
+use Rattle.cell.specs.Cursor.{cursor}
+use Rattle.state.specs.declared.State.{State}
+use Rattle.state.specs.State.{Desk, desk, mode, state}
+
+-- bytes 0 to 18, in the paper's order
+abbrev pub fieldsOf : State → List ℕ
+fieldsOf s =
+    -- "0–1 standing acts, low byte first; 2 selected channel; 3 stream channel (0 none)"
+    s .acts % 256 ∷ s .acts / 256 ∷ s .selected ∷ s .stream
+    -- "4 style ..; 5 Text and 6 mark ..; 7 depth"
+    ∷ s .mode .style ∷ s .mode .text ∷ s .mode .mark ∷ s .mode .depth
+    -- "8–10 base row, column, pen"
+    ∷ s .mode .roll .row .0 ∷ s .mode .roll .column .0 ∷ s .mode .roll .pen
+    -- "11–13 pop-on row, column, pen"
+    ∷ s .mode .pop .row .0 ∷ s .mode .pop .column .0 ∷ s .mode .pop .pen
+    -- "14–16 paint-on"
+    ∷ s .mode .paint .row .0 ∷ s .mode .paint .column .0 ∷ s .mode .paint .pen
+    -- "17–18 expected a, b with the channel still in a (0, 0 none)"
+    ∷ s .first ∷ s .second ∷ []
+
+-- "19–63 zero"
+unfoldable pub headOf : State → List ℕ
+headOf s = fieldsOf s ++ replicate 45 0
+
+-- "row, column, pen": three bytes from place `at` on
+abbrev pub cursorAt : List ℕ → ℕ → Cursor
+cursorAt bs at = cursor (rowNumber (getD bs at 0)) (columnNumber (getD bs (at + 1) 0)) (getD bs (at + 2) 0)
+
+-- "low byte first"
+abbrev pub lowFirstOf : ℕ → ℕ → ℕ
+lowFirstOf low high = low + high * 256
+
+-- the same bytes read
+unfoldable pub stateOf : List ℕ → State
+stateOf bs =
+    state (lowFirstOf (getD bs 0 0) (getD bs 1 0)) (getD bs 2 0) (getD bs 3 0) (getD bs 17 0) (getD bs 18 0)
+    (mode (getD bs 4 0) (getD bs 5 0) (getD bs 6 0) (getD bs 7 0) (cursorAt bs 8) (cursorAt bs 11) (cursorAt bs 14))
+
+-- "64–1023 displayed, 1024–1983 non-displayed": the cells of a desk as they are
+abbrev pub recordOf : Desk → List ℕ
+recordOf d = headOf (d .state) ++ d .cells
+
+-- and the desk of a record
+abbrev pub readOf : List ℕ → Desk
+readOf bs = desk (stateOf bs) (drop 64 bs)
+
+-- "two bytes a cell, code then pen": cell k of those that begin at byte `at`
+abbrev pub codeAt : List ℕ → ℕ → ℕ → ℕ
+codeAt bs at k = getD bs (at + k * 2) 0
+
+abbrev pub penAt : List ℕ → ℕ → ℕ → ℕ
+penAt bs at k = getD bs (at + k * 2 + 1) 0
+
+-- "The fresh record is one fixed thing: zeros but for channel 1, rows 15, columns 1."
+abbrev pub freshRecord : List ℕ
+freshRecord = 0 ∷ 0 ∷ 1 ∷ 0 ∷ 0 ∷ 0 ∷ 0 ∷ 0 ∷ 15 ∷ 1 ∷ 0 ∷ 15 ∷ 1 ∷ 0 ∷ 15 ∷ 1 ∷ replicate 1968 0

@@ -1,0 +1,2 @@
+-- The laws of `reel` that others cite.
+pub mod Laws

@@ -1,0 +1,2 @@
+-- The definitions of `reel`: how a reader walks.
+pub mod Walk

@@ -1,0 +1,2 @@
+-- The laws of `tray` that others cite.
+pub mod Laws

@@ -1,0 +1,58 @@
+-- `step_in_place` meets its contract. Assumes nothing.
+use mathlib.Core.Path.{ap, sym, subst, _∙_}
+use native.Mathlib.Omega.{arith}
+use denote.Ref.{now}
+use borrow.Rule.Slice.PartMut.{mid-len}
+use borrow.Author.Needs.{needs}
+use Rattle.standing.specs.Acts.{actOf}
+use Rattle.decode.specs.Sound.{SoundDesk}
+use Rattle.state.specs.State.{Desk, desk}
+use Rattle.record.proofs.Laws.{isValid-length, isValid-sound}
+use Rattle.tray.specs.Captions.{stepOf}
+use Rattle.tray.proofs.Laws.{cells-part, recordOf-in-place}
+use Rattle.tray.proofs.step_in_place.Statement.{statement}
+use Rattle.tray.proofs.step_in_place.Tie as tie
+
+part-step-end : tie.Need-part-step-end
+part-step-end c =
+    let s = c .before in
+    omega (arith, isValid-length (now (s .args .desk)) (s .pre .0))
+
+step-requires : tie.Need-step-requires
+step-requires c κs =
+    let s = c .before .before in
+    let bs = now (s .args .desk) in
+    let size = isValid-length bs (s .pre .0) in
+    (subst SoundDesk (λ i. desk (sym (s .pre .1) i) (sym (cells-part bs size) i)) (isValid-sound bs (s .pre .0)), s .pre .2)
+
+part-write-head-end : tie.Need-part-write-head-end
+part-write-head-end c =
+    let s = c .before .before .before .before .before in
+    omega (arith, isValid-length (now (s .args .desk)) (s .pre .0))
+
+returns : tie.Need-returns
+returns c =
+    let head = c .before .before in
+    let t = head .before .before .before .before in
+    let s = t .before .before .before in
+    let a = s .args in
+    let bs = now (a .desk) in
+    let size = isValid-length bs (s .pre .0) in
+    let m = mid-len 64 1984 bs (omega arith) in
+    let e = t .step .ensures ∙ (λ i. stepOf (desk (s .pre .1 i) (cells-part bs size i)) (actOf (a .kind) (a .first) (a .second))) in
+    (recordOf-in-place bs (t .step .last .1 .0) (head .write-head .last .0) (t .step .result) size (omega arith) (head .write-head .ensures) e, ap (λ (d : Desk). d .state) e)
+
+pub step-in-place-spec : {M : Type 1} → statement M
+step-in-place-spec =
+    tie.close
+    (tie.spec
+    (λ c. search needs)
+    (λ c. search needs)
+    part-step-end
+    step-requires
+    (λ c. search needs)
+    (λ c. search needs)
+    part-write-head-end
+    (λ c κs. search needs)
+    (λ c. search needs)
+    returns)

@@ -1,0 +1,199 @@
+// Log and tray: acts written and read, slots kept, and acts replayed on a record in place.
+use state::State;
+ghost use mathlib.Core.Path.{_≡_};
+ghost use mathlib.Core.Bool.{true};
+ghost use mathlib.Core.List.{[], _∷_};
+ghost use Prim.Native.Nat.{_+_, _*_, _≤_, _<_};
+ghost use lib.ListN.{length, drop};
+ghost use Rattle.facts.specs.Over.{over};
+ghost use Rattle.state.specs.State.{desk};
+ghost use Rattle.decode.specs.Step.{freshDesk};
+ghost use Rattle.decode.specs.Sound.{SoundDesk};
+ghost use Rattle.record.specs.Layout.{stateOf, readOf, recordOf};
+ghost use Rattle.record.specs.Valid.{isValid};
+ghost use Rattle.standing.specs.Acts.{isChannel, isFormed, actOf, areFormed};
+ghost use Rattle.standing.specs.Calls.{isSized, keepOf, startOf, isStart, isReplayable, restoredOf, replayOf};
+ghost use Rattle.tray.specs.Captions.{stepOf, countOf, captionDecoder};
+ghost use Rattle.tray.specs.Given.{Ready, afterOf, Given};
+
+// Whether the three buffers have their lengths.
+pub fn is_sized(desk: usize, log: usize, tray: usize) -> bool
+    ensures { λ r. ⌜ r ≡ isSized captionDecoder desk log tray ⌝ }
+{
+    (desk == 1984) & ((log == 48000) & (tray == 31744))
+}
+
+pub fn is_channel(channel: u8) -> bool
+    ensures { λ r. ⌜ r ≡ isChannel channel ⌝ }
+{
+    (1 <= channel) & (channel <= 2)
+}
+
+// The three bytes of an act, behind those that stand.
+pub fn write_act(log: &mut [u8], acts: u16, kind: u8, first: u8, second: u8)
+    requires { ⌜ acts * 3 + 3 ≤ length (now log) ⌝ }
+    ensures { λ r. ⌜ now (log .exit) ≡ over (now (log .entry)) (acts * 3) (kind ∷ first ∷ second ∷ []) ⌝ }
+{
+    let at = (acts as usize) * 3;
+    log[at] = kind;
+    log[at + 1] = first;
+    log[at + 2] = second;
+}
+
+// When the act count reaches a thousand, the slot's part of the tray is lent on to the record writer.
+pub fn keep(tray: &mut [u8], state: State, cells: &[u8])
+    requires { ⌜ (1 ≤ state .acts) × (state .acts ≤ 16000) × (length (now tray) ≡ 31744) × (length (now cells) ≡ 1920) ⌝ }
+    ensures { λ r. ⌜ now (tray .exit) ≡ keepOf captionDecoder (now (tray .entry)) (state .acts) (recordOf (desk state (now (cells .entry)))) ⌝ }
+{
+    let acts = state.acts as usize;
+    if acts % 1000 == 0 {
+        let at = (acts / 1000 - 1) * 1984;
+        let end = at + 1984;
+        record::write(&mut tray[at..end], state, cells);
+    }
+}
+
+// One act: a pair taken, or a channel selected.
+pub fn step(state: State, cells: &mut [u8], kind: u8, first: u8, second: u8) -> State
+    requires { ⌜ SoundDesk (desk state (now cells)) × (state .acts < 16000) ⌝ }
+    ensures { λ r. ⌜ desk r (now (cells .exit)) ≡ stepOf (desk state (now (cells .entry))) (actOf kind first second) ⌝ }
+{
+    if kind == 1 {
+        return decode::take(state, cells, first, second);
+    }
+    decode::select(state, cells, first)
+}
+
+fn is_formed(kind: u8, first: u8, second: u8) -> bool
+    ensures { λ r. ⌜ r ≡ isFormed kind first second ⌝ }
+{
+    (kind == 1) | ((kind == 2) & (is_channel(first) & (second == 0)))
+}
+
+// Whether `count` acts of the log behind the first `from` are well formed.
+fn are_formed(log: &[u8], from: usize, count: usize) -> bool
+    requires { ⌜ ((from + count) * 3 ≤ length (now log)) × (from + count ≤ 16000) ⌝ }
+    ensures { λ r. ⌜ r ≡ areFormed (now (log .entry)) from count ⌝ }
+{
+    let mut ok = true;
+    let mut n: usize = 0;
+    while n < count {
+        let at = (from + n) * 3;
+        ok = ok & is_formed(log[at], log[at + 1], log[at + 2]);
+        n += 1;
+    }
+    ok
+}
+
+// `count` acts of the log behind the first `from`, one after the other.
+fn replay(start: State, cells: &mut [u8], log: &[u8], from: usize, count: usize) -> State
+    requires { ⌜ SoundDesk (desk start (now cells)) × (start .acts + count ≤ 16000) × ((from + count) * 3 ≤ length (now log)) × (from + count ≤ 16000) × (areFormed (now log) from count ≡ true) ⌝ }
+    ensures { λ r. ⌜ desk r (now (cells .exit)) ≡ replayOf captionDecoder (desk start (now (cells .entry))) (now (log .entry)) from count ⌝ }
+{
+    let mut state = start;
+    let mut n: usize = 0;
+    while n < count {
+        let at = (from + n) * 3;
+        state = step(state, cells, log[at], log[at + 1], log[at + 2]);
+        n += 1;
+    }
+    state
+}
+
+// Whether slot s is valid with its count; the fresh record always is.
+fn is_start(tray: &[u8], s: usize) -> bool
+    requires { ⌜ (s ≤ 16) × (length (now tray) ≡ 31744) ⌝ }
+    ensures { λ r. ⌜ r ≡ isStart captionDecoder (startOf captionDecoder (now (tray .entry)) s) s ⌝ }
+{
+    if s == 0 {
+        return true;
+    }
+    let at = (s - 1) * 1984;
+    let end = at + 1984;
+    let ok = record::is_valid(&tray[at..end]);
+    let start = record::read_state(&tray[at..end]);
+    ok & ((start.acts as usize) == s * 1000)
+}
+
+// Whether the desk with m acts to stand can be made: the start, and the acts from there on.
+pub fn is_replayable(log: &[u8], tray: &[u8], m: usize) -> bool
+    requires { ⌜ (m ≤ 16000) × (length (now log) ≡ 48000) × (length (now tray) ≡ 31744) ⌝ }
+    ensures { λ r. ⌜ r ≡ isReplayable captionDecoder (now (log .entry)) (now (tray .entry)) m ⌝ }
+{
+    let s = m / 1000;
+    let from = s * 1000;
+    is_start(tray, s) & are_formed(log, from, m - from)
+}
+
+// The fresh record.
+pub fn write_fresh(desk: &mut [u8])
+    requires { ⌜ length (now desk) ≡ 1984 ⌝ }
+    ensures { λ r. ⌜ now (desk .exit) ≡ recordOf freshDesk ⌝ }
+{
+    facts::blank(desk);
+    record::write_head(&mut desk[0..64], State::fresh(State::CHANNEL));
+}
+
+// The start's record: slot s, or the fresh one.
+fn write_start(desk: &mut [u8], tray: &[u8], s: usize)
+    requires { ⌜ (length (now desk) ≡ 1984) × (s ≤ 16) × (length (now tray) ≡ 31744) ⌝ }
+    ensures { λ r. ⌜ now (desk .exit) ≡ startOf captionDecoder (now (tray .entry)) s ⌝ }
+{
+    if s == 0 {
+        write_fresh(desk);
+        return;
+    }
+    let at = (s - 1) * 1984;
+    let end = at + 1984;
+    facts::copy(desk, &tray[at..end]);
+}
+
+// Acts of the log on a desk's record in place.
+fn replay_in_place(desk: &mut [u8], log: &[u8], from: usize, count: usize)
+    requires { ⌜ (isValid (now desk) ≡ true) × (countOf (readOf (now desk)) + count ≤ 16000) × ((from + count) * 3 ≤ length (now log)) × (from + count ≤ 16000) × (areFormed (now log) from count ≡ true) ⌝ }
+    ensures { λ r. ⌜ now (desk .exit) ≡ recordOf (replayOf captionDecoder (readOf (now (desk .entry))) (now (log .entry)) from count) ⌝ }
+{
+    let start = record::read_state(desk);
+    let end = replay(start, &mut desk[64..1984], log, from, count);
+    record::write_head(&mut desk[0..64], end);
+}
+
+// The desk's record with m acts to stand, made anew from the start.
+pub fn restore(desk: &mut [u8], log: &[u8], tray: &[u8], m: usize)
+    requires { ⌜ (length (now desk) ≡ 1984) × (m ≤ 16000) × (length (now log) ≡ 48000) × (length (now tray) ≡ 31744) × (isReplayable captionDecoder (now log) (now tray) m ≡ true) ⌝ }
+    ensures { λ r. ⌜ now (desk .exit) ≡ recordOf (restoredOf captionDecoder (now (log .entry)) (now (tray .entry)) m) ⌝ }
+{
+    let s = m / 1000;
+    let from = s * 1000;
+    write_start(desk, tray, s);
+    replay_in_place(desk, log, from, m - from);
+}
+
+// One act on a desk's record in place.
+fn step_in_place(desk: &mut [u8], state: State, kind: u8, first: u8, second: u8) -> State
+    requires { ⌜ (isValid (now desk) ≡ true) × (state ≡ stateOf (now desk)) × (state .acts < 16000) ⌝ }
+    ensures { λ r. ⌜ (now (desk .exit) ≡ recordOf (afterOf (now (desk .entry)) kind first second)) × (r ≡ afterOf (now (desk .entry)) kind first second .state) ⌝ }
+{
+    let next = step(state, &mut desk[64..1984], kind, first, second);
+    record::write_head(&mut desk[0..64], next);
+    next
+}
+
+// An act on a desk: its record in place, its three bytes in the log, its slot where one is due.
+pub fn give(
+    desk: &mut [u8],
+    log: &mut [u8],
+    tray: &mut [u8],
+    state: State,
+    kind: u8,
+    first: u8,
+    second: u8,
+) -> u16
+    requires { ⌜ Ready (now desk) (now log) (now tray) × (state ≡ stateOf (now desk)) ⌝ }
+    ensures { λ r. ⌜ Given (now (desk .entry)) (now (log .entry)) (now (tray .entry)) kind first second r (now (desk .exit)) (now (log .exit)) (now (tray .exit)) ⌝ }
+{
+    let next = step_in_place(desk, state, kind, first, second);
+    write_act(log, state.acts, kind, first, second);
+    keep(tray, next, &desk[64..1984]);
+    next.acts
+}
