@@ -1,0 +1,189 @@
+//! Runs scripts of calls on the desk written from the paper alone and, with
+//! the feature `archive`, on `libloikrasun.a` beside it; compares number,
+//! value and every byte of the buffers after every call.
+//!
+//! ```text
+//! check [--calls N] [--seed S] [--register PROGRAM]
+//! ```
+//!
+//! On a difference it prints the shortest script that still shows one and
+//! ends with 1. The output depends on the options alone.
+
+#![forbid(unsafe_code)]
+
+mod machine;
+mod registers;
+mod run;
+mod shrink;
+#[cfg(test)]
+mod slips;
+
+use std::fmt;
+use std::path::{Path, PathBuf};
+use std::process::ExitCode;
+
+use gen::reels::reels;
+use gen::script::{script, Step};
+
+use machine::{Machine, Paper, OTHER};
+use run::Difference;
+
+const USAGE: &str = "check [--calls N] [--seed S] [--register PROGRAM]";
+
+/// What the command line asks for.
+#[derive(Clone, Debug, PartialEq, Eq)]
+struct Options {
+    calls: u64,
+    seed: u64,
+    register: Option<PathBuf>,
+}
+
+impl Options {
+    /// Reads the options; `None` if there is one that is not known.
+    fn read(mut words: impl Iterator<Item = String>) -> Option<Options> {
+        let mut options = Options {
+            calls: 200_000,
+            seed: 1,
+            register: None,
+        };
+        while let Some(word) = words.next() {
+            let value = words.next()?;
+            match word.as_str() {
+                "--calls" => options.calls = value.parse().ok()?,
+                "--seed" => options.seed = value.parse().ok()?,
+                "--register" => options.register = Some(value.into()),
+                _ => return None,
+            }
+        }
+        Some(options)
+    }
+}
+
+/// The script of this number, cut after so many calls, and its calls.
+fn cut_script(seed: u64, number: u64, calls: u64) -> (Vec<Step>, u64) {
+    let mut steps = script(seed, number);
+    let mut left = calls;
+    let end = steps.iter().position(|step| {
+        left -= u64::from(step.is_call());
+        left == 0
+    });
+    steps.truncate(end.map_or(steps.len(), |end| end + 1));
+    (steps, calls - left)
+}
+
+/// A difference between two machines, and the shortest script that shows one.
+struct Found {
+    place: String,
+    script: Vec<Step>,
+    difference: Difference,
+}
+
+impl fmt::Display for Found {
+    fn fmt(&self, f: &mut fmt::Formatter<'_>) -> fmt::Result {
+        writeln!(f, "difference ({})", self.place)?;
+        for (number, step) in (1..).zip(&self.script) {
+            writeln!(f, "{number:5} {step}")?;
+        }
+        writeln!(f, "{}", self.difference)
+    }
+}
+
+/// Runs scripts until so many calls are made or a difference is found.
+fn run_scripts(
+    left: &impl Machine,
+    right: &impl Machine,
+    calls: u64,
+    seed: u64,
+) -> Result<u64, Found> {
+    let mut made = 0;
+    let mut number = 0;
+    while made < calls {
+        let (steps, count) = cut_script(seed, number, calls - made);
+        if let Some(difference) = run::compare(left, right, &steps) {
+            let place = format!("seed {seed}, script {number}, after {made} calls");
+            return Err(shortest(left, right, steps, difference, place));
+        }
+        made += count;
+        number += 1;
+    }
+    Ok(made)
+}
+
+/// From a script with a difference to the shortest that still shows one.
+fn shortest(
+    left: &impl Machine,
+    right: &impl Machine,
+    steps: Vec<Step>,
+    difference: Difference,
+    place: String,
+) -> Found {
+    let shows = |steps: &[Step]| run::compare(left, right, steps).map(|found| found.step);
+    let script = shrink::shortest(&steps, shows);
+    let difference = run::compare(left, right, &script).unwrap_or(difference);
+    Found {
+        place,
+        script,
+        difference,
+    }
+}
+
+/// Compares the paper's registers with those by another way. On a difference:
+/// its report, with the shortest reel.
+fn run_reels(seed: u64, name: &str, other: impl Fn(&[u8]) -> Vec<u8>) -> Result<usize, String> {
+    let reels = reels(seed);
+    let differ = |reel: &[u8]| paper::register::register(reel) != other(reel);
+    for reel in &reels {
+        if differ(&reel.bytes) {
+            let lines: Vec<&[u8]> = reel.bytes.split_inclusive(|&byte| byte == b'\n').collect();
+            let shows = |lines: &[&[u8]]| differ(&lines.concat()).then_some(lines.len().max(1) - 1);
+            let short = shrink::shortest(&lines, shows).concat();
+            return Err(format!(
+                "registers differ ({name}, seed {seed}, reel {})\n{}\npaper:\n{}\nother:\n{}\n",
+                reel.name,
+                short.escape_ascii(),
+                paper::register::register(&short).escape_ascii(),
+                other(&short).escape_ascii(),
+            ));
+        }
+    }
+    Ok(reels.len())
+}
+
+/// All that the options ask for, as lines to print. The scripts go first: a
+/// difference in a call says more than one in a register.
+fn check(options: &Options) -> Result<String, String> {
+    let calls = run_scripts(&Paper, &OTHER, options.calls, options.seed)
+        .map_err(|found| found.to_string())?;
+    let reels = run_reels(options.seed, "by calls", |reel| {
+        registers::by_calls(&OTHER, reel)
+    })?;
+    let mut text = format!("{reels} reels by calls, 0 differences\n");
+    if let Some(program) = &options.register {
+        let reels = run_reels(options.seed, "by program", |reel| printed(program, reel))?;
+        text += &format!("{reels} reels by program, 0 differences\n");
+    }
+    Ok(text + &format!("{calls} calls, 0 differences\n"))
+}
+
+/// What the program prints; a program that does not run prints its error.
+fn printed(program: &Path, reel: &[u8]) -> Vec<u8> {
+    registers::by_program(program, reel).unwrap_or_else(|error| error.to_string().into_bytes())
+}
+
+/// Prints what was found; ends with 1 on a difference, 2 on a wrong option.
+fn main() -> ExitCode {
+    let Some(options) = Options::read(std::env::args().skip(1)) else {
+        eprintln!("{USAGE}");
+        return ExitCode::from(2);
+    };
+    match check(&options) {
+        Ok(text) => {
+            print!("{text}");
+            ExitCode::SUCCESS
+        }
+        Err(text) => {
+            print!("{text}");
+            ExitCode::FAILURE
+        }
+    }
+}

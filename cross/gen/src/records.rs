@@ -1,0 +1,135 @@
+//! Records made by the paper's list of fields, and damage to them.
+
+use crate::prng::Prng;
+
+/// The bytes of a record.
+pub const RECORD_BYTES: usize = 1_984;
+/// Where the displayed cells begin.
+const DISPLAYED: usize = 64;
+/// Where the non-displayed cells begin.
+const HIDDEN: usize = 1_024;
+
+/// A record that keeps to every line of "Valid", whether or not a run reaches
+/// it: any fields, any cells, any assigned pair expected.
+pub fn odd_record(seed: u64, acts: u16) -> Vec<u8> {
+    let mut prng = Prng::new(seed);
+    let mut record = vec![0; RECORD_BYTES];
+    record[..2].copy_from_slice(&acts.to_le_bytes());
+    record[2] = prng.byte_within(1, 2);
+    record[3] = if prng.percent(70) {
+        record[2]
+    } else {
+        prng.byte_within(0, 2)
+    };
+    record[5] = u8::from(prng.percent(15));
+    let marked = prng.percent(50);
+    record[6] = u8::from(marked);
+    record[4] = prng.pick(if marked {
+        &[1, 1, 1, 2, 0]
+    } else {
+        &[0, 2, 2, 3, 3]
+    });
+    record[7] = prng.pick(if marked { &[2, 3, 4] } else { &[0, 2, 3, 4] });
+    for cursor in [8, 11, 14] {
+        record[cursor] = prng.byte_within(1, 15);
+        record[cursor + 1] = column(&mut prng);
+        record[cursor + 2] = pen(&mut prng);
+    }
+    let (a, b) = expected(&mut prng);
+    record[17] = a;
+    record[18] = b;
+    let base = usize::from(record[8]);
+    let window = base.saturating_sub(usize::from(record[7]))..base;
+    for row in 0..15 {
+        let shown = !marked || window.contains(&row);
+        fill_row(&mut prng, &mut record, DISPLAYED, row, shown);
+        fill_row(&mut prng, &mut record, HIDDEN, row, true);
+    }
+    record
+}
+
+/// Any column, the edges often.
+fn column(prng: &mut Prng) -> u8 {
+    if prng.percent(60) {
+        prng.pick(&[1, 2, 3, 29, 30, 31, 32])
+    } else {
+        prng.byte_within(1, 32)
+    }
+}
+
+/// A valid pen.
+fn pen(prng: &mut Prng) -> u8 {
+    prng.byte_within(0, 6) | prng.byte_within(0, 7) << 3
+}
+
+/// A valid cell code that is not empty.
+fn cell_code(prng: &mut Prng) -> u8 {
+    match prng.below(6) {
+        0 => 0x80,
+        1 => prng.byte_within(0x90, 0x9F),
+        _ => prng.byte_within(0x20, 0x7F),
+    }
+}
+
+/// None, or an assigned pair of either channel.
+fn expected(prng: &mut Prng) -> (u8, u8) {
+    let channel = prng.pick(&[0, 8]);
+    let (a, b) = match prng.below(6) {
+        0 => return (0, 0),
+        1 => (0x11, prng.byte_within(0x20, 0x3F)),
+        2 => (0x17, prng.byte_within(0x21, 0x23)),
+        3 => (prng.byte_within(0x11, 0x17), prng.byte_within(0x40, 0x7F)),
+        4 => (0x10, prng.byte_within(0x40, 0x5F)),
+        _ => {
+            let codes = [0x20, 0x21, 0x24, 0x25, 0x26, 0x27, 0x28];
+            let more = [0x29, 0x2A, 0x2B, 0x2C, 0x2D, 0x2E, 0x2F];
+            (0x14, prng.pick(&[codes, more].concat()))
+        }
+    };
+    (a | channel, b)
+}
+
+/// Cells of one row: none, some, or nearly all.
+fn fill_row(prng: &mut Prng, record: &mut [u8], memory: usize, row: usize, filled: bool) {
+    let part = prng.pick(&[0, 0, 10, 90, 100]);
+    for column in 0..32 {
+        if filled && prng.percent(part) {
+            let place = memory + 2 * (32 * row + column);
+            record[place] = cell_code(prng);
+            record[place + 1] = pen(prng);
+        }
+    }
+}
+
+/// One targeted change to a record: the place and the byte written there. The
+/// values lie at the edges of the field, inside and outside.
+pub fn field_damage(prng: &mut Prng) -> (usize, u8) {
+    let place = match prng.below(12) {
+        0 => 0,
+        1 => 1,
+        2..=7 => prng.within(2, 18),
+        8 => prng.within(19, 63),
+        9 => prng.within(DISPLAYED, HIDDEN - 1),
+        10 => prng.within(HIDDEN, RECORD_BYTES - 1),
+        _ => DISPLAYED + 2 * prng.below(480),
+    };
+    let edges: &[u8] = match place {
+        0 | 1 => &[0, 0x3E, 0x3F, 0x80, 0x81, 0xE7, 0xE8, 0xE9, 0xFF],
+        2..=7 => &[0, 1, 2, 3, 4, 5, 0xFF],
+        8 | 11 | 14 => &[0, 1, 2, 14, 15, 16, 0xFF],
+        9 | 12 | 15 => &[0, 1, 2, 31, 32, 33, 0xFF],
+        10 | 13 | 16 => &[0, 6, 7, 0x0F, 0x17, 0x3E, 0x3F, 0x40, 0x80],
+        17 => &[
+            0, 0x0F, 0x10, 0x11, 0x14, 0x17, 0x18, 0x1C, 0x1F, 0x20, 0x94,
+        ],
+        18 => &[
+            0, 0x1F, 0x20, 0x22, 0x2D, 0x40, 0x5F, 0x60, 0x7F, 0x80, 0xAD,
+        ],
+        19..=63 => &[0, 1, 0x80],
+        _ if place % 2 == 0 => &[
+            0, 1, 0x1F, 0x20, 0x7F, 0x80, 0x81, 0x8F, 0x90, 0x9F, 0xA0, 0xFF,
+        ],
+        _ => &[0, 1, 6, 7, 0x3E, 0x3F, 0x40, 0x80],
+    };
+    (place, prng.pick(edges))
+}

@@ -1,0 +1,25 @@
+//! The line 21 caption desk of document 01, written from the paper alone.
+//!
+//! This crate shares no line with the proved implementation. It is plain
+//! Rust without a proof: a second reading of the same paper, to be run beside
+//! the first one and compared with it byte for byte. Every doc comment quotes
+//! the line of the paper that its function implements.
+//!
+//! - [`bytes`]: parity and the low seven bits
+//! - [`codes`]: what a control pair means
+//! - [`decode`]: the pair rules and what the codes do, on a plain struct
+//! - [`desk`]: record, log and tray on lent slices, with refusals
+//! - [`lines`]: frame lines and the reader of a reel
+//! - [`numbers`]: the numbers given back
+//! - [`register`]: reel in, register out
+
+#![forbid(unsafe_code)]
+#![warn(missing_docs)]
+
+pub mod bytes;
+pub mod codes;
+pub mod decode;
+pub mod desk;
+pub mod lines;
+pub mod numbers;
+pub mod register;
