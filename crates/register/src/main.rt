@@ -1,9 +1,9 @@
-// Prints the register of the reel on standard input, and nothing else. All that is worked out is worked out in `runs`.
-use runs::END;
+// Prints the register of the reel on standard input, and nothing else. All that is worked out is worked out in `runs` and `walk`.
+use walk::END;
 ghost use mathlib.Core.Path.{_≡_};
 ghost use Prim.Native.Nat.{_≤_};
 ghost use lib.ListN.{length};
-ghost use Rattle.runs.specs.Walk.{room};
+ghost use Rattle.walk.specs.Walk.{room};
 
 const INPUT: i32 = 0;
 
@@ -13,9 +13,9 @@ const OUTPUT: i32 = 1;
 fn print(reel: &[u8], cells: &mut [u8], held: &mut [u8], out: &mut [u8])
     requires { ⌜ (length (now cells) ≡ 1920) × (length (now held) ≡ 960) × (room ≤ length (now out)) ⌝ }
 {
-    let mut w = runs::start(cells, held);
+    let mut w = walk::start(cells, held);
     while w.stage < END {
-        let p = runs::next(w, reel, cells, held, out);
+        let p = walk::next(w, reel, cells, held, out);
         let n = p.n;
         w = p.walk;
         if !io::write_all(OUTPUT, &out[..n]) {

@@ -1,6 +1,5 @@
--- The definitions of `runs`, in reading order: the frames of a reel, the runs of their screens, the whole register, the walk that prints it in pieces, and the paper's sentence about runs.
+-- The definitions of `runs`, in reading order: the frames of a reel, the runs of their screens, the whole register, and the paper's sentence about runs.
 pub mod Frames
 pub mod Runs
 pub mod Register
-pub mod Walk
 pub mod Sentence

@@ -4,8 +4,8 @@ use native.Mathlib.Omega.{arith}
 use lib.Seq.{length-take-le}
 use lib.ListN.{length}
 use borrow.Author.Needs.{needs}
-use Rattle.runs.proofs.LawsOfSteps.{start-fit}
-use Rattle.runs.specs.Walk.{place, Fit, stepsOf}
+use Rattle.walk.proofs.LawsOfSteps.{start-fit}
+use Rattle.walk.specs.Walk.{place, Fit, stepsOf}
 use Rattle.register.proofs.print.Statement.{statement}
 use Rattle.register.proofs.print.Tie as tie
 

@@ -2,9 +2,9 @@
 use mathlib.Core.Path.{refl}
 use borrow.Author.Needs.{needs}
 use Rattle.lines.proofs.Laws.{put-then}
-use Rattle.runs.specs.Walk.{finishedOf, finishTextOf}
-use Rattle.runs.proofs.finish.Statement.{statement}
-use Rattle.runs.proofs.finish.Tie as tie
+use Rattle.walk.specs.Walk.{finishedOf, finishTextOf}
+use Rattle.walk.proofs.finish.Statement.{statement}
+use Rattle.walk.proofs.finish.Tie as tie
 
 returns : tie.Need-returns
 unfolding finishedOf finishTextOf

@@ -13,10 +13,10 @@ use Rattle.state.specs.State.{desk, freshOf}
 use Rattle.decode.specs.Pair.{pairOf}
 use Rattle.decode.specs.Sound.{SoundDesk}
 use Rattle.lines.specs.Line.{header, run, linesOf}
-use Rattle.runs.specs.declared.Walk.{Walk}
+use Rattle.walk.specs.declared.Walk.{Walk}
 use Rattle.runs.specs.Frames.{screenOf, most, screensFrom}
 use Rattle.runs.specs.Runs.{isSame, stretchesFrom, emptyScreen}
 use Rattle.runs.specs.Register.{textOf, refusalOf}
 
 -- what is by value and what is lent: the walk, the cells, and the screen of the stretch that is open
 pub record Place : Type 0 where

@@ -7,11 +7,11 @@ use Prim.Native.Nat.{_≤_, _<_}
 use denote.Ref.{now}
 use lib.ListN.{length, take}
 use borrow.Author.Needs.{needs}
-use Rattle.runs.specs.Walk.{place, restOf, Fit, stepsOf}
-use Rattle.runs.specs.declared.Walk.{Walk}
-use Rattle.runs.proofs.Laws.{rest-none}
-use Rattle.runs.proofs.next.Statement.{statement}
-use Rattle.runs.proofs.next.Tie as tie
+use Rattle.walk.specs.Walk.{place, restOf, Fit, stepsOf}
+use Rattle.walk.specs.declared.Walk.{Walk}
+use Rattle.walk.proofs.Laws.{rest-none}
+use Rattle.walk.proofs.next.Statement.{statement}
+use Rattle.walk.proofs.next.Tie as tie
 
 abbrev Inv-loop : tie.InvT-loop
 Inv-loop reel cells₀ held₀ out₀ at₀ n₀ cells held out at n =

@@ -11,11 +11,11 @@ use lib.ListN.{take}
 use borrow.Author.Needs.{needs}
 use Rattle.lines.proofs.Laws.{put-nothing}
 use Rattle.facts.proofs.Over.{over-all}
-use Rattle.runs.specs.Walk.{place, walk, room}
 use Rattle.runs.proofs.Laws.{sameScreenOf-isSame}
-use Rattle.runs.proofs.LawsOfSteps.{shown-place, shown-text, put-as}
-use Rattle.runs.proofs.show.Statement.{statement}
-use Rattle.runs.proofs.show.Tie as tie
+use Rattle.walk.specs.Walk.{place, walk, room}
+use Rattle.walk.proofs.LawsOfSteps.{shown-place, shown-text, put-as}
+use Rattle.walk.proofs.show.Statement.{statement}
+use Rattle.walk.proofs.show.Tie as tie
 
 returns : tie.Need-returns
 returns c =

@@ -3,9 +3,9 @@ use mathlib.Core.Path.{ap, _∙_}
 use Prim.Native.Nat.{ℕ}
 use lib.ListN.{replicate}
 use borrow.Author.Needs.{needs}
-use Rattle.runs.specs.Walk.{place, walk, startOf}
-use Rattle.runs.proofs.start.Statement.{statement}
-use Rattle.runs.proofs.start.Tie as tie
+use Rattle.walk.specs.Walk.{place, walk, startOf}
+use Rattle.walk.proofs.start.Statement.{statement}
+use Rattle.walk.proofs.start.Tie as tie
 
 returns : tie.Need-returns
 unfolding startOf

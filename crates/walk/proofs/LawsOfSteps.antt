@@ -21,12 +21,13 @@ use Rattle.decode.specs.Sound.{SoundDesk}
 use Rattle.decode.proofs.Laws.{pairOf-sound, freshDesk-sound}
 use Rattle.lines.specs.Line.{header, run, linesOf, refusedOf, Put}
 use Rattle.lines.proofs.Laws.{put-nothing, length-refusedOf}
-use Rattle.runs.specs.declared.Walk.{Walk}
 use Rattle.runs.specs.Frames.{screenOf, most, nextOf}
 use Rattle.runs.specs.Runs.{isSame}
 use Rattle.runs.specs.Register.{refusalOf}
-use Rattle.runs.specs.Walk.{Place, place, walk, startOf, comingOf, restOf, staysOf, shownOf, shownTextOf, finishedOf, finishTextOf, Fit, stepsOf, room, Went}
-use Rattle.runs.proofs.Laws.{next-below, rest-shown, rest-finish, rest-none, rest-header}
+use Rattle.runs.proofs.Laws.{next-below}
+use Rattle.walk.specs.declared.Walk.{Walk}
+use Rattle.walk.specs.Walk.{Place, place, walk, startOf, comingOf, restOf, staysOf, shownOf, shownTextOf, finishedOf, finishTextOf, Fit, stepsOf, room, Went}
+use Rattle.walk.proofs.Laws.{rest-shown, rest-finish, rest-none, rest-header}
 
 -- a text behind the first n bytes of a buffer, and what follows it
 piece : (out : List ℕ) (n : ℕ) (text : List ℕ) (most : ℕ) (rest : List ℕ) {left : List ℕ} {m : ℕ} → n + most ≤ length out → Put out n text most left m

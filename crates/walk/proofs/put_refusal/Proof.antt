@@ -5,9 +5,9 @@ use denote.Ref.{now}
 use borrow.Author.Tests.{eq-eqb, ne-eqb}
 use borrow.Author.Needs.{needs}
 use Rattle.facts.specs.Choice.{pick}
-use Rattle.runs.proofs.LawsOfSteps.{refusal-none, refusal-some}
-use Rattle.runs.proofs.put_refusal.Statement.{statement}
-use Rattle.runs.proofs.put_refusal.Tie as tie
+use Rattle.walk.proofs.LawsOfSteps.{refusal-none, refusal-some}
+use Rattle.walk.proofs.put_refusal.Statement.{statement}
+use Rattle.walk.proofs.put_refusal.Tie as tie
 
 returns : tie.Need-returns
 returns c = let a = c .before .before .args in refusal-none (now (a .out)) (a .n) (a .size) (a .frame) (c .if1 .taken)

@@ -3,11 +3,12 @@ use mathlib.Core.Path.{_≡_, refl, sym, _∙_}
 use native.Mathlib.Omega.{arith}
 use denote.Ref.{now}
 use borrow.Author.Needs.{needs}
-use Rattle.runs.specs.Walk.{place}
-use Rattle.runs.proofs.LawsOfSteps.{went-header, went-shown, went-finish}
-use Rattle.runs.proofs.Laws.{next-below, coming-none}
-use Rattle.runs.proofs.step.Statement.{statement}
-use Rattle.runs.proofs.step.Tie as tie
+use Rattle.runs.proofs.Laws.{next-below}
+use Rattle.walk.specs.Walk.{place}
+use Rattle.walk.proofs.LawsOfSteps.{went-header, went-shown, went-finish}
+use Rattle.walk.proofs.Laws.{coming-none}
+use Rattle.walk.proofs.step.Statement.{statement}
+use Rattle.walk.proofs.step.Tie as tie
 
 returns : tie.Need-returns
 returns c =

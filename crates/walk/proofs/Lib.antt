@@ -1,0 +1,3 @@
+-- The laws of `walk` that others cite: what is to come, step by step.
+pub mod Laws
+pub mod LawsOfSteps

@@ -1,0 +1,2 @@
+-- The definitions of `walk`: the register in pieces.
+pub mod Walk
