@@ -3,9 +3,10 @@
 //! value and every byte of the buffers after every call.
 //!
 //! ```text
-//! check [--calls N] [--seed S] [--register PROGRAM]
+//! check [--calls N] [--seed S] [--register COMMAND]
 //! ```
 //!
+//! COMMAND is a program and its arguments, with spaces between.
 //! On a difference it prints the shortest script that still shows one and
 //! ends with 1. The output depends on the options alone.
 
@@ -19,7 +20,6 @@ mod shrink;
 mod slips;
 
 use std::fmt;
-use std::path::{Path, PathBuf};
 use std::process::ExitCode;
 
 use gen::reels::reels;
@@ -28,14 +28,14 @@ use gen::script::{script, Step};
 use machine::{Machine, Paper, OTHER};
 use run::Difference;
 
-const USAGE: &str = "check [--calls N] [--seed S] [--register PROGRAM]";
+const USAGE: &str = "check [--calls N] [--seed S] [--register COMMAND]";
 
 /// What the command line asks for.
 #[derive(Clone, Debug, PartialEq, Eq)]
 struct Options {
     calls: u64,
     seed: u64,
-    register: Option<PathBuf>,
+    register: Option<String>,
 }
 
 impl Options {
@@ -51,7 +51,7 @@ impl Options {
             match word.as_str() {
                 "--calls" => options.calls = value.parse().ok()?,
                 "--seed" => options.seed = value.parse().ok()?,
-                "--register" => options.register = Some(value.into()),
+                "--register" => options.register = Some(value),
                 _ => return None,
             }
         }
@@ -158,16 +158,16 @@ fn check(options: &Options) -> Result<String, String> {
         registers::by_calls(&OTHER, reel)
     })?;
     let mut text = format!("{reels} reels by calls, 0 differences\n");
-    if let Some(program) = &options.register {
-        let reels = run_reels(options.seed, "by program", |reel| printed(program, reel))?;
+    if let Some(command) = &options.register {
+        let reels = run_reels(options.seed, "by program", |reel| printed(command, reel))?;
         text += &format!("{reels} reels by program, 0 differences\n");
     }
     Ok(text + &format!("{calls} calls, 0 differences\n"))
 }
 
-/// What the program prints; a program that does not run prints its error.
-fn printed(program: &Path, reel: &[u8]) -> Vec<u8> {
-    registers::by_program(program, reel).unwrap_or_else(|error| error.to_string().into_bytes())
+/// What the command prints; a command that does not run prints its error.
+fn printed(command: &str, reel: &[u8]) -> Vec<u8> {
+    registers::by_program(command, reel).unwrap_or_else(|error| error.to_string().into_bytes())
 }
 
 /// Prints what was found; ends with 1 on a difference, 2 on a wrong option.

@@ -2,7 +2,6 @@
 //! beside another program's.
 
 use std::io::{self, Write};
-use std::path::Path;
 use std::process::{Command, Stdio};
 use std::thread;
 
@@ -71,9 +70,12 @@ fn codes(cells: &[u8]) -> Option<String> {
     Some(shown.map(|cell| format!("{:02X}", cell[0])).collect())
 }
 
-/// What a program prints for a reel on its standard input.
-pub fn by_program(program: &Path, reel: &[u8]) -> io::Result<Vec<u8>> {
-    let mut child = Command::new(program)
+/// What a command, a program and its arguments, prints for a reel on its
+/// standard input.
+pub fn by_program(command: &str, reel: &[u8]) -> io::Result<Vec<u8>> {
+    let mut words = command.split_whitespace();
+    let mut child = Command::new(words.next().unwrap_or_default())
+        .args(words)
         .stdin(Stdio::piped())
         .stdout(Stdio::piped())
         .spawn()?;

@@ -279,6 +279,24 @@ pub fn structured(seed: u64, count: usize) -> Vec<Pair> {
     Traffic::new(seed).pairs(count)
 }
 
+/// So many pairs as a live captioner sends them: line after line of roll-up,
+/// its three codes each twice, then text, and no fault.
+pub fn live(seed: u64, count: usize) -> Vec<Pair> {
+    let mut prng = Prng::new(seed);
+    let mut pairs = Vec::new();
+    while pairs.len() < count {
+        for (a, b) in [(0x14, 0x26), (0x14, 0x2D), (0x14, 0x70)] {
+            pairs.extend_from_slice(&[good(a, b); 2]);
+        }
+        for _ in 0..prng.within(10, 16) {
+            let (a, b) = (prng.byte_within(0x20, 0x7E), prng.byte_within(0x20, 0x7E));
+            pairs.push(good(a, b));
+        }
+    }
+    pairs.truncate(count);
+    pairs
+}
+
 #[cfg(test)]
 mod tests {
     use super::*;
