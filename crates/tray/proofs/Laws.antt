@@ -5,8 +5,8 @@ use mathlib.Core.List.{List, _++_}
 use Prim.Native.Nat.{ℕ, _+_, _<_, _≤_}
 use native.Mathlib.Omega.{arith}
 use lib.Dec.{eqb, leb}
-use lib.ListN.{length, take, drop, replicate, length-drop}
-use lib.Seq.{take-all, drop-at}
+use lib.ListN.{length, take, drop, replicate}
+use lib.Seq.{drop-at}
 use borrow.Author.Tests.{leb-true, eq-eqb, ne-eqb}
 use borrow.Rule.Slice.PartMut.{putMid}
 use Rattle.facts.specs.Over.{over}
@@ -17,7 +17,7 @@ use Rattle.decode.specs.Step.{freshDesk}
 use Rattle.decode.specs.Sound.{SoundDesk}
 use Rattle.decode.proofs.Laws.{takenOf-acts, takenOf-sound, selectOf-acts, selectOf-sound, freshDesk-sound, freshDesk-acts}
 use Rattle.record.specs.Layout.{headOf, recordOf}
-use Rattle.record.proofs.Laws.{length-headOf, length-recordOf, readOf-recordOf, isValid-recordOf, in-place}
+use Rattle.record.proofs.Laws.{length-headOf, length-recordOf, readOf-recordOf, isValid-recordOf, in-place, lent-cells}
 use Rattle.standing.specs.Acts.{Act, pair, select, isChannel, isFormed, actOf, Meant}
 use Rattle.standing.specs.Decoder.{Lawful}
 use Rattle.standing.specs.Calls.{isSized}
@@ -86,12 +86,6 @@ pub recordOf-in-place : (bs cells head : List ℕ) (s : State) {e : Desk} → le
 recordOf-in-place bs cells head s hb hc h e =
     in-place bs cells head hb hc (ap length h ∙ length-headOf s) ∙ ap (λ (l : List ℕ). l ++ cells) h ∙ ap recordOf e
 
--- the part of a record that is lent is its cells
-pub cells-part : (bs : List ℕ) → length bs ≡ 1984 → take 1920 (drop 64 bs) ≡ drop 64 bs
-cells-part bs e =
-    let n : length (drop 64 bs) ≤ 1920 = simp length-drop (omega arith) in
-    take-all 1920 (drop 64 bs) n
-
 -- the cells of a record of 1,984 bytes, lent as a part of it
 pub cells-of-record : (e : Desk) {bs : List ℕ} → length bs ≡ 1984 → bs ≡ recordOf e → take 1920 (drop 64 bs) ≡ e .cells
-cells-of-record e {bs} size h = cells-part bs size ∙ ap (drop 64) h ∙ drop-at (headOf (e .state)) (e .cells) 64 (length-headOf (e .state))
+cells-of-record e {bs} size h = lent-cells bs size ∙ ap (drop 64) h ∙ drop-at (headOf (e .state)) (e .cells) 64 (length-headOf (e .state))

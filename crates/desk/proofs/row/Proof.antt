@@ -9,7 +9,7 @@ use borrow.Rule.Slice.PartMut.{mid-len}
 use borrow.Author.Tests.{leb-true}
 use borrow.Author.Tests.{eq-eqb, ne-eqb}
 use borrow.Author.Needs.{needs}
-use Rattle.tray.proofs.Laws.{cells-part}
+use Rattle.record.proofs.Laws.{lent-cells}
 use Rattle.standing.specs.Calls.{gives}
 use Rattle.page.specs.Page.{displayed, countRowOf}
 use Rattle.cell.specs.Place.{rowNumber}
@@ -32,7 +32,7 @@ returns c =
     let a = c .before .before .before .before .before .before .before .args in
     let size = f .before .before .before .if1 .taken in
     rw (eq-eqb _ _ size, sym (f .before .before .is-valid .ensures) ∙ f .before .if2 .taken, f .if3 .taken)
-    (ap (gives 0) (c .count-row .ensures .0 ∙ ap (λ (l : List ℕ). countRowOf l displayed (rowNumber (a .number))) (cells-part (now (a .desk)) size)))
+    (ap (gives 0) (c .count-row .ensures .0 ∙ ap (λ (l : List ℕ). countRowOf l displayed (rowNumber (a .number))) (lent-cells (now (a .desk)) size)))
 
 returns-2 : tie.Need-returns-2
 unfolding rowOf lookOf

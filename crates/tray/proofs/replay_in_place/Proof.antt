@@ -9,9 +9,9 @@ use Rattle.standing.specs.Calls.{replayOf}
 use Rattle.decode.specs.Sound.{SoundDesk}
 use Rattle.state.specs.State.{desk}
 use Rattle.state.specs.declared.State.{State}
-use Rattle.record.proofs.Laws.{isValid-length, isValid-sound}
+use Rattle.record.proofs.Laws.{isValid-length, isValid-sound, lent-cells}
 use Rattle.tray.specs.Captions.{captionDecoder}
-use Rattle.tray.proofs.Laws.{cells-part, recordOf-in-place}
+use Rattle.tray.proofs.Laws.{recordOf-in-place}
 use Rattle.tray.proofs.replay_in_place.Statement.{statement}
 use Rattle.tray.proofs.replay_in_place.Tie as tie
 
@@ -31,7 +31,7 @@ replay-requires c κs =
     let bs = now (s .args .desk) in
     let size = isValid-length bs (s .pre .0) in
     let read = c .before .read-state .ensures in
-    (subst SoundDesk (λ i. desk (sym read i) (sym (cells-part bs size) i)) (isValid-sound bs (s .pre .0)), subst (λ (x : State). x .acts + s .args .count ≤ 16000) (sym read) (s .pre .1), s .pre .2, s .pre .3, s .pre .4)
+    (subst SoundDesk (λ i. desk (sym read i) (sym (lent-cells bs size) i)) (isValid-sound bs (s .pre .0)), subst (λ (x : State). x .acts + s .args .count ≤ 16000) (sym read) (s .pre .1), s .pre .2, s .pre .3, s .pre .4)
 
 part-write-head-end : tie.Need-part-write-head-end
 part-write-head-end c =
@@ -49,7 +49,7 @@ returns c =
     let m = mid-len 64 1984 bs (omega arith) in
     let read = t .before .before .read-state .ensures in
     recordOf-in-place bs (t .replay .last .1 .0) (head .write-head .last .0) (t .replay .result) size (omega arith) (head .write-head .ensures)
-    (t .replay .ensures ∙ (λ i. replayOf captionDecoder (desk (read i) (cells-part bs size i)) (now (a .log)) (a .from) (a .count)))
+    (t .replay .ensures ∙ (λ i. replayOf captionDecoder (desk (read i) (lent-cells bs size i)) (now (a .log)) (a .from) (a .count)))
 
 pub replay-in-place-spec : {M : Type 1} → statement M
 replay-in-place-spec =

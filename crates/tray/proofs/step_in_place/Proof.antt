@@ -7,9 +7,9 @@ use borrow.Author.Needs.{needs}
 use Rattle.standing.specs.Acts.{actOf}
 use Rattle.decode.specs.Sound.{SoundDesk}
 use Rattle.state.specs.State.{Desk, desk}
-use Rattle.record.proofs.Laws.{isValid-length, isValid-sound}
+use Rattle.record.proofs.Laws.{isValid-length, isValid-sound, lent-cells}
 use Rattle.tray.specs.Captions.{stepOf}
-use Rattle.tray.proofs.Laws.{cells-part, recordOf-in-place}
+use Rattle.tray.proofs.Laws.{recordOf-in-place}
 use Rattle.tray.proofs.step_in_place.Statement.{statement}
 use Rattle.tray.proofs.step_in_place.Tie as tie
 
@@ -23,7 +23,7 @@ step-requires c κs =
     let s = c .before .before in
     let bs = now (s .args .desk) in
     let size = isValid-length bs (s .pre .0) in
-    (subst SoundDesk (λ i. desk (sym (s .pre .1) i) (sym (cells-part bs size) i)) (isValid-sound bs (s .pre .0)), s .pre .2)
+    (subst SoundDesk (λ i. desk (sym (s .pre .1) i) (sym (lent-cells bs size) i)) (isValid-sound bs (s .pre .0)), s .pre .2)
 
 part-write-head-end : tie.Need-part-write-head-end
 part-write-head-end c =
@@ -39,7 +39,7 @@ returns c =
     let bs = now (a .desk) in
     let size = isValid-length bs (s .pre .0) in
     let m = mid-len 64 1984 bs (omega arith) in
-    let e = t .step .ensures ∙ (λ i. stepOf (desk (s .pre .1 i) (cells-part bs size i)) (actOf (a .kind) (a .first) (a .second))) in
+    let e = t .step .ensures ∙ (λ i. stepOf (desk (s .pre .1 i) (lent-cells bs size i)) (actOf (a .kind) (a .first) (a .second))) in
     (recordOf-in-place bs (t .step .last .1 .0) (head .write-head .last .0) (t .step .result) size (omega arith) (head .write-head .ensures) e, ap (λ (d : Desk). d .state) e)
 
 pub step-in-place-spec : {M : Type 1} → statement M
