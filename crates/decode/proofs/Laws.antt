@@ -1,10 +1,11 @@
--- Every pair and every selection keeps a sound desk sound, whatever it was, and counts one. Assumes nothing.
-use mathlib.Core.Path.{_≡_, refl, ap, _∙_}
-use mathlib.Core.Bool.{true, false, not, _&&_, _||_}
+-- Two codes through one gate; every pair and every selection keeps a sound desk sound, whatever it was, and counts one. Assumes nothing.
+use mathlib.Core.Path.{_≡_, refl, ap, sym, _∙_}
+use mathlib.Core.Bool.{Bool, true, false, not, _&&_, _||_}
 use Prim.Native.Nat.{ℕ, _+_, _<_, _≤_}
 use native.Mathlib.Omega.{arith}
 use lib.Dec.{eqb, ltb}
-use borrow.Author.Tests.{ltb-true, ltb-false, le-leb}
+use borrow.Author.Tests.{ltb-true, ltb-false, le-leb, ne-eqb}
+use Rattle.facts.specs.Choice.{pick}
 use Rattle.facts.proofs.Choice.{pick-cases, and-right, and-both, or-left, or-right, or-none-left, or-none-right}
 use Rattle.wire.specs.Byte.{isGood, lowSeven}
 use Rattle.wire.proofs.Laws.{lowSeven-below}
@@ -16,31 +17,77 @@ use Rattle.state.specs.State.{Captions, captions, Desk, desk}
 use Rattle.state.specs.Style.{isReady}
 use Rattle.state.specs.Ranges.{Sound}
 use Rattle.state.proofs.Laws.{isReady-live, fresh-sound}
-use Rattle.typing.specs.Typing.{writeOf}
-use Rattle.typing.proofs.Laws.{writeOf-sound}
+use Rattle.typing.specs.Typing.{writeOf, writeAnyOf}
+use Rattle.typing.proofs.Laws.{writeOf-sound, isReady-writeAnyOf}
 use Rattle.acts.specs.Act.{actOf}
 use Rattle.acts.proofs.Laws.{actOf-sound}
-use Rattle.decode.specs.Pair.{captionsOf, withCaptions, told, clearedOf, typeOf, asTextOf, isDamagedRepeat, ruleOneOf, ruleTwoOf, isPassedOver, controlOf, ruleThreeOf, ruleFourOf, pairOf}
+use Rattle.decode.specs.Pair.{captionsOf, withCaptions, told, clearedOf, typeOf, asTextOf, textCodeOf, typeAnyOf, isDamagedRepeat, ruleOneOf, ruleTwoOf, isPassedOver, controlOf, ruleThreeOf, ruleFourOf, pairOf}
 use Rattle.decode.specs.Step.{takenOf, selectOf, freshDesk}
 use Rattle.decode.specs.Sound.{SoundDesk}
 
 -- "20h–7Fh" are cell codes
-pub text-isCode : (code : ℕ) → 0x20 ≤ code → code < 128 → isCode code ≡ true
+text-isCode : (code : ℕ) → 0x20 ≤ code → code < 128 → isCode code ≡ true
 unfolding isCode
 text-isCode code low high =
     or-left _ (or-left _ (or-right (eqb code 0) (and-both (le-leb 0x20 code low) (le-leb code 0x7f (omega arith)))))
 
--- What is written keeps the captions sound.
+-- "the stream's channel is the selected one, a style is set, and Text is off"
+abbrev pub isOpen : Desk → Bool
+isOpen d = eqb (d .state .stream) (d .state .selected) && isReady (d .state .mode)
 
-written : (d : Desk) (code : ℕ) → isCode code ≡ true → 1 ≤ code → Sound (captionsOf d) → (eqb (d .state .stream) (d .state .selected) && isReady (d .state .mode)) ≡ true
-    → Sound (writeOf (captionsOf d) code)
-written d code e low h t =
-    writeOf-sound (captionsOf d) h code e low (isReady-live (d .state .mode) (and-right (eqb (d .state .stream) (d .state .selected)) (isReady (d .state .mode)) t))
+pub isOpen-live : (d : Desk) → isOpen d ≡ true → 1 ≤ d .state .mode .style
+isOpen-live d t = isReady-live (d .state .mode) (and-right (eqb (d .state .stream) (d .state .selected)) (isReady (d .state .mode)) t)
 
-pub typeOf-captions : (d : Desk) (code : ℕ) → isCode code ≡ true → 1 ≤ code → Sound (captionsOf d) → Sound (captionsOf (typeOf d code))
-unfolding typeOf
-typeOf-captions d code e low h =
-    pick-cases (λ (x : Desk). Sound (captionsOf x)) (eqb (d .state .stream) (d .state .selected) && isReady (d .state .mode)) (written d code e low h) (λ t. h)
+-- A byte as text is its code typed.
+
+typeAnyOf-some : (d : Desk) (code : ℕ) → 1 ≤ code → typeAnyOf d code ≡ typeOf d code
+unfolding typeAnyOf
+typeAnyOf-some d code low =
+    let some : code ≡ 0 → ⊥ = λ e. omega arith in
+    rw (ne-eqb code 0 some)
+
+typeAnyOf-text : (d : Desk) (y : ℕ) → typeAnyOf d (textCodeOf y) ≡ asTextOf d y
+unfolding typeAnyOf textCodeOf asTextOf
+typeAnyOf-text d y = go (isGood y) (ltb (lowSeven y) 0x20) refl
+  where
+    go : (g l : Bool) → ltb (lowSeven y) 0x20 ≡ l → typeAnyOf d (pick g (pick l 0 (lowSeven y)) 0x7f) ≡ pick g (pick l d (typeOf d (lowSeven y))) (typeOf d 0x7f)
+    go true true t = refl
+    go true false t =
+        let low = ltb-false (lowSeven y) 0x20 t in
+        typeAnyOf-some d (lowSeven y) (omega arith)
+    go false l t = refl
+
+-- rule 2: no code, then a byte as text
+pub none-then-text : (d : Desk) (y : ℕ) → typeAnyOf (typeAnyOf d 0) (textCodeOf y) ≡ asTextOf d y
+unfolding typeAnyOf
+none-then-text d y = typeAnyOf-text d y
+
+-- rules 1 and 4: a code, then a byte as text
+pub code-then-text : (d : Desk) (code y : ℕ) → 1 ≤ code → typeAnyOf (typeAnyOf d code) (textCodeOf y) ≡ asTextOf (typeOf d code) y
+code-then-text d code y low = typeAnyOf-text (typeAnyOf d code) y ∙ ap (λ (e : Desk). asTextOf e y) (typeAnyOf-some d code low)
+
+-- The gate for two codes is asked once: writing leaves it as it was.
+
+typeAnyOf-open : (d : Desk) (code : ℕ) → isOpen d ≡ true → typeAnyOf d code ≡ withCaptions d (writeAnyOf (captionsOf d) code)
+unfolding typeAnyOf typeOf writeAnyOf
+typeAnyOf-open d code t = go (eqb code 0)
+  where
+    go : (n : Bool) → pick n d (typeOf d code) ≡ withCaptions d (pick n (captionsOf d) (writeOf (captionsOf d) code))
+    go true = refl
+    go false = rw t
+
+typeAnyOf-shut : (d : Desk) (code : ℕ) → isOpen d ≡ false → typeAnyOf d code ≡ d
+unfolding typeAnyOf typeOf
+typeAnyOf-shut d code t = pick-cases (λ (e : Desk). e ≡ d) (eqb code 0) (λ n. refl) (λ n. rw t)
+
+pub open-both : (d : Desk) (first second : ℕ) → isOpen d ≡ true → withCaptions d (writeAnyOf (writeAnyOf (captionsOf d) first) second) ≡ typeAnyOf (typeAnyOf d first) second
+open-both d first second t =
+    let e = withCaptions d (writeAnyOf (captionsOf d) first) in
+    let still = ap (λ (r : Bool). eqb (d .state .stream) (d .state .selected) && r) (isReady-writeAnyOf (captionsOf d) first) in
+    sym (ap (λ (x : Desk). typeAnyOf x second) (typeAnyOf-open d first t) ∙ typeAnyOf-open e second (still ∙ t))
+
+pub shut-both : (d : Desk) (first second : ℕ) → isOpen d ≡ false → d ≡ typeAnyOf (typeAnyOf d first) second
+shut-both d first second t = sym (ap (λ (x : Desk). typeAnyOf x second) (typeAnyOf-shut d first t) ∙ typeAnyOf-shut d second t)
 
 -- what is known of a control pair that is not passed over
 pub isPassedOver-second : (d : Desk) (a y : ℕ) → isPassedOver (d .state) a y ≡ false → 0x20 ≤ lowSeven y
@@ -97,7 +144,7 @@ unfolding clearedOf typeOf controlOf
 pairOf-acts d x y =
     let n = d .state .acts in
     pairOf-keeps (Counts n) (λ e h. h)
-    (λ e code t low h. pick-cases (Counts n) (eqb (e .state .stream) (e .state .selected) && isReady (e .state .mode)) (λ u. h) (λ u. h))
+    (λ e code t low h. pick-cases (Counts n) (isOpen e) (λ u. h) (λ u. h))
     (λ e a b al au bl bu t h. pick-cases (Counts n) (eqb (channelOf a) (e .state .selected)) (λ u. h) (λ u. h)) d x y refl
 
 -- The rules keep a sound desk sound.
@@ -130,8 +177,8 @@ clearedOf-sound d h = told-sound d h (d .state .stream) 0 0 (h .stream) none-isE
 typeOf-sound : (d : Desk) (code : ℕ) → isCode code ≡ true → 1 ≤ code → SoundDesk d → SoundDesk (typeOf d code)
 unfolding typeOf
 typeOf-sound d code e low h =
-    pick-cases SoundDesk (eqb (d .state .stream) (d .state .selected) && isReady (d .state .mode))
-    (λ t. withCaptions-sound d h (writeOf (captionsOf d) code) (written d code e low (h .captions) t)) (λ t. h)
+    pick-cases SoundDesk (isOpen d)
+    (λ t. withCaptions-sound d h (writeOf (captionsOf d) code) (writeOf-sound (captionsOf d) (h .captions) code e low (isOpen-live d t))) (λ t. h)
 
 controlOf-sound : (d : Desk) (a b : ℕ) → 0x10 ≤ a → a ≤ 0x1f → 0x20 ≤ b → b ≤ 0x7f → isUnassigned (codeOf a b) ≡ false → SoundDesk d → SoundDesk (controlOf d a b)
 unfolding controlOf

@@ -42,6 +42,14 @@ typeOf d code =
 unfoldable pub asTextOf : Desk → ℕ → Desk
 asTextOf d y = pick (isGood y) (pick (ltb (lowSeven y) 0x20) d (typeOf d (lowSeven y))) (typeOf d 0x7f)
 
+-- the code that a byte writes as text, 0 where it does nothing
+unfoldable pub textCodeOf : ℕ → ℕ
+textCodeOf y = pick (isGood y) (pick (ltb (lowSeven y) 0x20) 0 (lowSeven y)) 0x7f
+
+-- a code typed if there is any; 0 is none
+unfoldable pub typeAnyOf : Desk → ℕ → Desk
+typeAnyOf d code = pick (eqb code 0) d (typeOf d code)
+
 -- "if a pair is expected and the second byte is good with b equal to its second value"
 abbrev pub isDamagedRepeat : State → ℕ → Bool
 isDamagedRepeat s y = leb 1 (s .first) && isGood y && eqb (lowSeven y) (s .second)

@@ -1,16 +1,14 @@
 // The decoder: the pair rules over a state by value and lent cells, and the two acts of a desk.
-// A pair of two characters goes straight to `typing::write`; only control pairs go through the dispatcher of codes.
+// A pair of two characters goes straight to `typing::write_two`; only control pairs go through the dispatcher of codes.
 use codes::Code;
 use state::State;
 ghost use mathlib.Core.Path.{_≡_};
-ghost use mathlib.Core.Bool.{true};
 ghost use Prim.Native.Nat.{_≤_, _<_};
 ghost use lib.ListN.{length};
-ghost use Rattle.cell.specs.Code.{isCode};
 ghost use Rattle.codes.specs.Codes.{codeOf};
 ghost use Rattle.state.specs.State.{captions, desk};
 ghost use Rattle.state.specs.Ranges.{Sound};
-ghost use Rattle.decode.specs.Pair.{told, typeOf, asTextOf, ruleOneOf, controlOf, ruleThreeOf, pairOf};
+ghost use Rattle.decode.specs.Pair.{told, typeAnyOf, textCodeOf, isDamagedRepeat, controlOf, ruleThreeOf, pairOf};
 ghost use Rattle.decode.specs.Step.{takenOf, selectOf};
 
 // No pair is expected any more.
@@ -22,54 +20,34 @@ fn cleared(mut state: State) -> State
     state
 }
 
-// The one gate for writing.
-fn type_code(mut state: State, cells: &mut [u8], code: u8) -> State
+// The code that a byte writes as text, 0 where it writes none.
+fn text_code(y: u8) -> u8
+    ensures { λ r. ⌜ r ≡ textCodeOf y ⌝ }
+{
+    let b = wire::low_seven(y);
+    let own = facts::choose(b < 0x20, 0, b);
+    facts::choose(wire::is_good(y), own, 0x7f)
+}
+
+// The one gate for writing: two codes one after the other, code 0 none.
+fn type_both(mut state: State, cells: &mut [u8], first: u8, second: u8) -> State
     requires { ⌜ Sound (captions (state .mode) (now cells)) ⌝ }
-    ensures { λ r. ⌜ desk r (now (cells .exit)) ≡ typeOf (desk state (now (cells .entry))) code ⌝ }
+    ensures { λ r. ⌜ desk r (now (cells .exit)) ≡ typeAnyOf (typeAnyOf (desk state (now (cells .entry))) first) second ⌝ }
 {
     let mode = state.mode;
     if (state.stream == state.selected) & mode.is_ready() {
-        let next = typing::write(mode, cells, code);
+        let next = typing::write_two(mode, cells, first, second);
         state.mode = next;
         return state;
     }
     state
 }
 
-// A byte as text.
-fn as_text(state: State, cells: &mut [u8], y: u8) -> State
-    requires { ⌜ Sound (captions (state .mode) (now cells)) ⌝ }
-    ensures { λ r. ⌜ desk r (now (cells .exit)) ≡ asTextOf (desk state (now (cells .entry))) y ⌝ }
+// Whether the second byte is that of the expected pair: the first byte, which is bad, was its repeat's.
+fn is_damaged_repeat(state: State, y: u8) -> bool
+    ensures { λ r. ⌜ r ≡ isDamagedRepeat state y ⌝ }
 {
-    if wire::is_good(y) {
-        let b = wire::low_seven(y);
-        if b < 0x20 {
-            return state;
-        }
-        return type_code(state, cells, b);
-    }
-    type_code(state, cells, 0x7f)
-}
-
-// A code, then the second byte as text.
-fn type_both(state: State, cells: &mut [u8], code: u8, y: u8) -> State
-    requires { ⌜ Sound (captions (state .mode) (now cells)) × (isCode code ≡ true) × (1 ≤ code) ⌝ }
-    ensures { λ r. ⌜ desk r (now (cells .exit)) ≡ asTextOf (typeOf (desk state (now (cells .entry))) code) y ⌝ }
-{
-    let typed = type_code(state, cells, code);
-    as_text(typed, cells, y)
-}
-
-// Rule 1: the first byte is bad.
-fn rule_one(state: State, cells: &mut [u8], y: u8) -> State
-    requires { ⌜ Sound (captions (state .mode) (now cells)) ⌝ }
-    ensures { λ r. ⌜ desk r (now (cells .exit)) ≡ ruleOneOf (desk state (now (cells .entry))) y ⌝ }
-{
-    let open = cleared(state);
-    if (1 <= state.first) & wire::is_good(y) & (wire::low_seven(y) == state.second) {
-        return open;
-    }
-    type_both(open, cells, 0x7f, y)
+    (1 <= state.first) & wire::is_good(y) & (wire::low_seven(y) == state.second)
 }
 
 // An assigned pair: the stream's channel, the expected pair, and the act if the channel is the selected one.
@@ -108,22 +86,26 @@ fn rule_three(state: State, cells: &mut [u8], a: u8, y: u8) -> State
     control(open, cells, a, b, code)
 }
 
-// What two raw bytes do.
+// What two raw bytes do: rules 2, 3 and 4 for a good first byte, rule 1 for a bad one.
 pub fn pair(state: State, cells: &mut [u8], x: u8, y: u8) -> State
     requires { ⌜ Sound (captions (state .mode) (now cells)) ⌝ }
     ensures { λ r. ⌜ desk r (now (cells .exit)) ≡ pairOf (desk state (now (cells .entry))) x y ⌝ }
 {
     let a = wire::low_seven(x);
+    let open = cleared(state);
     if wire::is_good(x) {
         if a < 0x10 {
-            return as_text(cleared(state), cells, y);
+            return type_both(open, cells, 0, text_code(y));
         }
         if a < 0x20 {
             return rule_three(state, cells, a, y);
         }
-        return type_both(cleared(state), cells, a, y);
+        return type_both(open, cells, a, text_code(y));
     }
-    rule_one(state, cells, y)
+    if is_damaged_repeat(state, y) {
+        return open;
+    }
+    type_both(open, cells, 0x7f, text_code(y))
 }
 
 // A pair as an act: it counts.

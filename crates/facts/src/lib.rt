@@ -1,7 +1,8 @@
-// Loops over lent bytes, and the smaller of two numbers: all that is done to bytes without knowing what they mean.
+// Loops over lent bytes, the smaller of two numbers, and a choice of two: all that is done to bytes without knowing what they mean.
 ghost use mathlib.Core.Path.{_≡_};
 ghost use Prim.Native.Nat.{_+_, _≤_, min};
 ghost use lib.ListN.{length, replicate};
+ghost use Rattle.facts.specs.Choice.{pick};
 ghost use Rattle.facts.specs.Over.{over, part, exchangeOf};
 ghost use Rattle.facts.specs.Every.{sameOf, blankOf};
 
@@ -9,6 +10,16 @@ pub fn least(a: u8, b: u8) -> u8
     ensures { λ r. ⌜ r ≡ min a b ⌝ }
 {
     if a < b { a } else { b }
+}
+
+// The first byte where the test passes, else the second.
+pub fn choose(test: bool, x: u8, y: u8) -> u8
+    ensures { λ r. ⌜ r ≡ pick test x y ⌝ }
+{
+    if test {
+        return x;
+    }
+    y
 }
 
 // The whole of a lent part becomes 0.

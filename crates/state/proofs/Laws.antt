@@ -1,4 +1,4 @@
--- The laws of modes: which changes keep one in its ranges, and which cell a cursor points at. Assumes nothing.
+-- The laws of modes: the style's cursor set and taken, which changes keep a mode in its ranges, and which cell a cursor points at. Assumes nothing.
 use mathlib.Core.Path.{_≡_, refl, ap, sym, subst}
 use mathlib.Core.Bool.{Bool, true, false}
 use mathlib.Core.List.{List}
@@ -6,11 +6,12 @@ use Prim.Native.Nat.{ℕ, _+_, _-_, _*_, _<_, _≤_}
 use native.Mathlib.Omega.{arith}
 use lib.Dec.{eqb, leb}
 use lib.ListN.{replicate}
-use borrow.Author.Tests.{leb-true, eqb-false, eq-eqb}
+use borrow.Author.Tests.{leb-true, eqb-true, eqb-false, eq-eqb}
+use Rattle.facts.specs.Choice.{pick}
 use Rattle.facts.proofs.Choice.{pick-cases, and-left}
 use Rattle.cell.specs.declared.Row.{Row}
 use Rattle.cell.specs.declared.Cursor.{Cursor}
-use Rattle.cell.specs.Place.{cellAt, columnNumber}
+use Rattle.cell.specs.Place.{cellAt, rowNumber, columnNumber}
 use Rattle.cell.specs.Pen.{isPen}
 use Rattle.cell.specs.Cursor.{Placed, cursor}
 use Rattle.page.specs.Window.{aboveOf}
@@ -33,6 +34,59 @@ pub cursorOf-placed : (m : Mode) → Ranged m → Placed (cursorOf m)
 unfolding cursorOf
 cursorOf-placed m r =
     pick-cases Placed (eqb (m .style) 1) (λ t. r .roll) (λ t. pick-cases Placed (eqb (m .style) 2) (λ u. r .pop) (λ u. r .paint))
+
+-- A cursor picked field by field.
+pub pick-cursor : (t : Bool) (x y : Cursor) {row column pen : ℕ} → row ≡ pick t (x .row .0) (y .row .0) → column ≡ pick t (x .column .0) (y .column .0) → pen ≡ pick t (x .pen) (y .pen)
+    → cursor (rowNumber row) (columnNumber column) pen ≡ pick t x y
+pick-cursor true x y e f g = λ i. cursor (rowNumber (e i)) (columnNumber (f i)) (g i)
+pick-cursor false x y e f g = λ i. cursor (rowNumber (e i)) (columnNumber (f i)) (g i)
+
+-- The style's cursor set and taken again: what was set last stands, and the rest of the mode stays.
+
+module _ (m : Mode) where
+  -- the style's own cursor changes nothing
+  pub withCursor-own : withCursor m (cursorOf m) ≡ m
+  unfolding cursorOf withCursor
+  withCursor-own =
+      let own = cursorOf m in
+      let other : (a b : ℕ) → m .style ≡ a → eqb (m .style) b ≡ eqb a b = λ a b e. ap (λ (n : ℕ). eqb n b) e in
+      let roll : pick (eqb (m .style) 1) own (m .roll) ≡ m .roll = pick-cases (λ (x : Cursor). x ≡ m .roll) (eqb (m .style) 1) (λ t. rw t) (λ t. refl) in
+      let pop : pick (eqb (m .style) 2) own (m .pop) ≡ m .pop =
+      pick-cases (λ (x : Cursor). x ≡ m .pop) (eqb (m .style) 2) (λ t. simp (t, other 2 1 (eqb-true (m .style) 2 t))) (λ t. refl) in
+      let paint : pick (eqb (m .style) 3) own (m .paint) ≡ m .paint =
+      pick-cases (λ (x : Cursor). x ≡ m .paint) (eqb (m .style) 3)
+      (λ t. let e = eqb-true (m .style) 3 t in simp (other 3 1 e, other 3 2 e)) (λ t. refl) in
+      λ i. cursors m (roll i) (pop i) (paint i)
+
+  pub withCursor-twice : (b c : Cursor) → withCursor (withCursor m b) c ≡ withCursor m c
+  unfolding withCursor
+  withCursor-twice b c = λ i. cursors m (again (eqb (m .style) 1) (m .roll) i) (again (eqb (m .style) 2) (m .pop) i) (again (eqb (m .style) 3) (m .paint) i)
+    where
+      again : (t : Bool) (x : Cursor) → pick t c (pick t b x) ≡ pick t c x
+      again true x = refl
+      again false x = refl
+
+  pub cursorOf-withCursor : (c : Cursor) → 1 ≤ m .style → m .style ≤ 3 → cursorOf (withCursor m c) ≡ c
+  unfolding cursorOf withCursor
+  cursorOf-withCursor c low high =
+      go (eqb (m .style) 1) (eqb (m .style) 2) (eqb (m .style) 3)
+      (λ t u.
+      let roll = eqb-false (m .style) 1 t in
+      let pop = eqb-false (m .style) 2 u in
+      eq-eqb (m .style) 3 (omega arith))
+    where
+      go : (r p q : Bool) → (r ≡ false → p ≡ false → q ≡ true) → pick r (pick r c (m .roll)) (pick p (pick p c (m .pop)) (pick q c (m .paint))) ≡ c
+      go true p q h = refl
+      go false true q h = refl
+      go false false q h = ap (λ (t : Bool). pick t c (m .paint)) (h refl refl)
+
+  pub memoryOf-withCursor : (c : Cursor) → memoryOf (withCursor m c) ≡ memoryOf m
+  unfolding memoryOf withCursor
+  memoryOf-withCursor c = refl
+
+  pub isReady-withCursor : (c : Cursor) → isReady (withCursor m c) ≡ isReady m
+  unfolding isReady withCursor
+  isReady-withCursor c = refl
 
 -- Modes: the parts that a change does not touch are passed on.
 

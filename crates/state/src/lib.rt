@@ -4,6 +4,7 @@ use cell::Cursor;
 use cell::Row;
 ghost use mathlib.Core.Path.{_≡_};
 ghost use Prim.Native.Nat.{_+_, _≤_, _<_};
+ghost use Rattle.facts.specs.Choice.{pick};
 ghost use Rattle.cell.specs.Cursor.{Placed};
 ghost use Rattle.state.specs.State.{freshCursor, freshMode, freshOf, selectedOf};
 ghost use Rattle.state.specs.Style.{cursorOf, withCursor, memoryOf, isReady};
@@ -83,6 +84,16 @@ pub fn fresh_cursor() -> Cursor
     }
 }
 
+// The first cursor where the test passes, else the second: each field as a byte, so that the compiler keeps a mode in registers.
+fn choose(test: bool, x: Cursor, y: Cursor) -> Cursor
+    ensures { λ r. ⌜ r ≡ pick test x y ⌝ }
+{
+    let row = Row(facts::choose(test, x.row.0, y.row.0));
+    let column = Column(facts::choose(test, x.column.0, y.column.0));
+    let pen = facts::choose(test, x.pen, y.pen);
+    Cursor { row, column, pen }
+}
+
 impl Mode {
     pub fn fresh() -> Mode
         ensures { λ r. ⌜ r ≡ freshMode ⌝ }
@@ -111,34 +122,26 @@ impl Mode {
         requires { ⌜ Ranged self ⌝ }
         ensures { λ r. ⌜ (r ≡ cursorOf self) × Placed r ⌝ }
     {
-        let style = self.style;
-        if style == ROLL_UP {
-            return self.roll;
-        }
-        if style == POP_ON {
-            return self.pop;
-        }
-        self.paint
+        let other = choose(self.style == POP_ON, self.pop, self.paint);
+        choose(self.style == ROLL_UP, self.roll, other)
     }
 
     // The mode with another cursor for its style.
-    pub fn with_cursor(mut self, cursor: Cursor) -> Mode
+    pub fn with_cursor(self, cursor: Cursor) -> Mode
         ensures { λ r. ⌜ r ≡ withCursor self cursor ⌝ }
     {
-        let style = self.style;
-        if style == ROLL_UP {
-            self.roll = cursor;
-            return self;
+        let roll = choose(self.style == ROLL_UP, cursor, self.roll);
+        let pop = choose(self.style == POP_ON, cursor, self.pop);
+        let paint = choose(self.style == PAINT_ON, cursor, self.paint);
+        Mode {
+            style: self.style,
+            text: self.text,
+            mark: self.mark,
+            depth: self.depth,
+            roll,
+            pop,
+            paint,
         }
-        if style == POP_ON {
-            self.pop = cursor;
-            return self;
-        }
-        if style == PAINT_ON {
-            self.paint = cursor;
-            return self;
-        }
-        self
     }
 
     // Where the memory starts that the style works on.

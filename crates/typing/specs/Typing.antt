@@ -2,6 +2,7 @@
 -- Paper 01, "What the codes do": write, BS, DER, FON and the preamble; "Codes": mid-row and tab; 47 CFR 15.119 (f) and (h).
 -- Assumes nothing.
 use Prim.Native.Nat.{ℕ}
+use mathlib.Core.List.{List}
 use lib.Dec.{eqb, leb}
 use Rattle.facts.specs.Choice.{pick}
 use Rattle.cell.specs.declared.Cursor.{Cursor}
@@ -17,6 +18,17 @@ unfoldable pub writeOf : Captions → ℕ → Captions
 writeOf d code =
     let c = cursorOf (d .mode) in
     captions (withCursor (d .mode) (afterWriteOf c)) (writeCellOf (d .cells) (memoryOf (d .mode)) (c .row) (c .column) code (c .pen))
+
+-- a code written if there is any; 0 is none
+unfoldable pub writeAnyOf : Captions → ℕ → Captions
+writeAnyOf d code = pick (eqb code 0) d (writeOf d code)
+
+-- the same in two parts, at a cursor that is in hand: where the cursor goes, and what the cells of its memory become
+unfoldable pub passedOf : Cursor → ℕ → Cursor
+passedOf c code = pick (eqb code 0) c (afterWriteOf c)
+
+unfoldable pub putOf : List ℕ → ℕ → Cursor → ℕ → List ℕ
+putOf d memory c code = pick (eqb code 0) d (writeCellOf d memory (c .row) (c .column) code (c .pen))
 
 -- the style's cursor is another; the cells stay
 unfoldable pub turnedOf : Captions → Cursor → Captions

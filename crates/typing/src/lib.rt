@@ -10,9 +10,10 @@ ghost use mathlib.Core.List.{List};
 ghost use Prim.Native.Nat.{ℕ, _≤_};
 ghost use Rattle.cell.specs.Pen.{isPen};
 ghost use Rattle.cell.specs.Cursor.{Placed};
+ghost use Rattle.page.specs.Page.{Holds};
 ghost use Rattle.state.specs.State.{captions};
 ghost use Rattle.state.specs.Ranges.{Ranged, Sound};
-ghost use Rattle.typing.specs.Typing.{writeOf, attributeOf, midRowOf, fonOf, bsOf, derOf, tabbedOf, movedOf, preambleOf};
+ghost use Rattle.typing.specs.Typing.{writeOf, writeAnyOf, passedOf, putOf, attributeOf, midRowOf, fonOf, bsOf, derOf, tabbedOf, movedOf, preambleOf};
 
 // The cell gets code and pen; the cursor goes on.
 pub fn write(mode: Mode, cells: &mut [u8], code: u8) -> Mode
@@ -24,6 +25,32 @@ pub fn write(mode: Mode, cells: &mut [u8], code: u8) -> Mode
     let column = c.column;
     page::write_cell(cells, mode.memory(), row, column, code, c.pen);
     mode.with_cursor(c.after_write())
+}
+
+// A code in a cursor's cell, if there is any: the cursor behind it. Code 0 is none.
+fn put(cells: &mut [u8], memory: usize, at: Cursor, code: u8) -> Cursor
+    requires { ⌜ Holds memory (now cells) × Placed at ⌝ }
+    ensures { λ r. ⌜ (r ≡ passedOf at code) × (now (cells .exit) ≡ putOf (now (cells .entry)) memory at code) ⌝ }
+{
+    if code == 0 {
+        return at;
+    }
+    let row = at.row;
+    let column = at.column;
+    page::write_cell(cells, memory, row, column, code, at.pen);
+    at.after_write()
+}
+
+// Two codes one after the other, code 0 none. The style's cursor is taken once and set once, since most pairs are two characters.
+pub fn write_two(mode: Mode, cells: &mut [u8], first: u8, second: u8) -> Mode
+    requires { ⌜ Sound (captions mode (now cells)) × (1 ≤ mode .style) ⌝ }
+    ensures { λ r. ⌜ captions r (now (cells .exit)) ≡ writeAnyOf (writeAnyOf (captions mode (now (cells .entry))) first) second ⌝ }
+{
+    let memory = mode.memory();
+    let at = mode.cursor();
+    let between = put(cells, memory, at, first);
+    let behind = put(cells, memory, between, second);
+    mode.with_cursor(behind)
 }
 
 // The pen changes, then an attribute space is written with it.
