@@ -12,7 +12,7 @@ use Rattle.facts.specs.Over.{over}
 use Rattle.facts.proofs.Choice.{below-cases, and-left, and-right}
 use Rattle.facts.proofs.Every.{every-of}
 use Rattle.facts.proofs.Over.{part-at}
-use Rattle.standing.specs.Acts.{Act, pair, select, isChannel, Meant, kindOf, firstOf, secondOf, entryOf, actOf, isFormed, atAct, areFormed}
+use Rattle.standing.specs.Acts.{Act, pair, select, isChannel, isAllowed, Meant, kindOf, firstOf, secondOf, entryOf, actOf, isFormed, atAct, areFormed}
 use Rattle.standing.specs.Calls.{blankFrom}
 use Rattle.standing.specs.Bytes.{blocks, entryAt}
 use Rattle.standing.proofs.Blocks.{part-blocks, over-blocks, blank-blocks}
@@ -24,10 +24,18 @@ unfolding actOf
 actOf-entryOf (pair x y) = refl
 actOf-entryOf (select c) = refl
 
-isFormed-entryOf : (a : Act) → Meant a → isFormed (kindOf a) (firstOf a) (secondOf a) ≡ true
+pub isFormed-allowed : (a : Act) → isAllowed a ≡ true → isFormed (kindOf a) (firstOf a) (secondOf a) ≡ true
 unfolding isFormed
-isFormed-entryOf (pair x y) h = refl
-isFormed-entryOf (select c) h = rw h
+isFormed-allowed (pair x y) h = refl
+isFormed-allowed (select c) h = rw h
+
+-- an act that can stand is not refused
+pub meant-allowed : (a : Act) → Meant a → isAllowed a ≡ true
+meant-allowed (pair x y) m = refl
+meant-allowed (select c) m = m
+
+isFormed-entryOf : (a : Act) → Meant a → isFormed (kindOf a) (firstOf a) (secondOf a) ≡ true
+isFormed-entryOf a h = isFormed-allowed a (meant-allowed a h)
 
 -- well formed bytes are an act that can stand
 pub isFormed-meant : (kind x y : ℕ) → isFormed kind x y ≡ true → x < 256 → y < 256 → Meant (actOf kind x y)

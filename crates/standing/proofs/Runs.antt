@@ -14,7 +14,7 @@ use Rattle.standing.specs.Decoder.{Decoder, Lawful}
 use Rattle.standing.specs.Calls.{Buffers, three, Given, gives, Outcome, refused, need, isFit, actedOf, giveOf, isReplayable, steppedOf, backOf}
 use Rattle.standing.specs.Runs.{Ask, give, back, InBytes, Lent, own, other, Call, call, askOf, allOwn, lentOf, heldOf, mine, alone, applied, standsBy, callOf, answered, called, after, Fair, standing, owed, ruledBy, ruled}
 use Rattle.standing.specs.Bytes.{buffersOf}
-use Rattle.standing.proofs.Acts.{AllMeant}
+use Rattle.standing.proofs.Acts.{AllMeant, meant-allowed}
 use Rattle.standing.proofs.Desks.{Good, good-take, good-snoc}
 use Rattle.standing.proofs.Steps.{asked-meant, next-call}
 
@@ -27,10 +27,6 @@ need-refusal test number w h = pick-cases (Refusal w) test (λ e. h) (λ e r. re
 held-lent : (b : Lent) (bytes : List ℕ) → heldOf b bytes (lentOf b bytes) ≡ bytes
 held-lent own bytes = refl
 held-lent (other x) bytes = refl
-
-meant-allowed : (a : Act) → Meant a → isAllowed a ≡ true
-meant-allowed (pair x y) m = refl
-meant-allowed (select c) m = m
 
 -- each pair among the calls is two bytes
 abbrev pub AllBytes : List Ask → Type 0

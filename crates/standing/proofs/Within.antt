@@ -1,7 +1,7 @@
 -- What is done within a call: a slot is kept, a start is found and tested, and one turn of the loops that test and replay the acts.
 -- Assumes nothing.
 use mathlib.Core.Path.{_≡_, refl, ap, sym, _∙_}
-use mathlib.Core.List.{List}
+use mathlib.Core.List.{List, [], _∷_}
 use mathlib.Core.Bool.{Bool, true, _&&_}
 use Prim.Native.Nat.{ℕ, zero, suc, _+_, _-_, _*_, _/_, _%_, _<_, _≤_}
 use native.Mathlib.Nat.{add-zero, zero-mul, add-sub-cancel-left}
@@ -9,10 +9,11 @@ use native.Mathlib.Numerals.{add-one}
 use native.Mathlib.Omega.{arith}
 use borrow.Author.Tests.{eq-eqb, ne-eqb, eqb-true}
 use lib.Dec.{eqb}
-use lib.ListN.{getD}
+use lib.ListN.{length, getD}
 use Rattle.facts.specs.Over.{over, part}
 use Rattle.facts.proofs.Choice.{and-left, and-right, and-both}
 use Rattle.facts.proofs.Every.{every-at, every-more}
+use Rattle.facts.proofs.Over.{in-over}
 use Rattle.standing.specs.Acts.{actOf, isFormed, atAct, areFormed}
 use Rattle.standing.specs.Decoder.{Decoder, Lawful}
 use Rattle.standing.specs.Calls.{keepOf, startOf, isStart, isReplayable, replayOf, restoredOf}
@@ -31,6 +32,24 @@ module _ (l : List ℕ) (from : ℕ) where
   pub areFormed-at : (n i : ℕ) → areFormed l from n ≡ true → i < n → atAct isFormed l (from + i) ≡ true
   unfolding areFormed
   areFormed-at n i h b = every-at (λ i. atAct isFormed l (from + i)) n h i b
+
+-- An act written behind the first n is the one that is read there.
+module _ (l : List ℕ) (n kind first second : ℕ) (room : n * 3 + 3 ≤ length l) where
+  abbrev logged : List ℕ
+  logged = over l (n * 3) (kind ∷ first ∷ second ∷ [])
+
+  logged-at : {A : Type 0} (f : ℕ → ℕ → ℕ → A) → atAct f logged (n + 0) ≡ f kind first second
+  logged-at f = ap (atAct f logged) (add-zero n) ∙ (λ i. f ((ap (λ (p : ℕ). getD logged p 0) (sym (add-zero (n * 3))) ∙ byte 0 (omega arith)) i) (byte 1 (omega arith) i) (byte 2 (omega arith) i))
+    where
+      byte : (j : ℕ) → j < 3 → getD logged (n * 3 + j) 0 ≡ getD (kind ∷ first ∷ second ∷ []) j 0
+      byte j h = in-over l (n * 3) (kind ∷ first ∷ second ∷ []) j (omega arith) h
+
+  pub logged-formed : isFormed kind first second ≡ true → areFormed logged n 1 ≡ true
+  logged-formed h = sym (areFormed-more logged n 0 (areFormed-none logged n) (sym (logged-at isFormed ∙ h)))
+
+  pub logged-replayed : (D : Decoder) (d : D .Desk) → replayOf D d logged n 1 ≡ D .step d (actOf kind first second)
+  unfolding replayOf
+  logged-replayed D d = ap (D .step d) (logged-at actOf)
 
 module _ (D : Decoder) where
   open Decoder D using (Desk, fresh, step, count, recordOf, readOf, isValid, size, spacing, limit)

@@ -148,14 +148,16 @@ fn write_start(desk: &mut [u8], tray: &[u8], s: usize)
     facts::copy(desk, &tray[at..end]);
 }
 
-// Acts of the log on a desk's record in place.
-fn replay_in_place(desk: &mut [u8], log: &[u8], from: usize, count: usize)
-    requires { ⌜ (isValid (now desk) ≡ true) × (countOf (readOf (now desk)) + count ≤ 16000) × ((from + count) * 3 ≤ length (now log)) × (from + count ≤ 16000) × (areFormed (now log) from count ≡ true) ⌝ }
-    ensures { λ r. ⌜ now (desk .exit) ≡ recordOf (replayOf captionDecoder (readOf (now (desk .entry))) (now (log .entry)) from count) ⌝ }
+// Acts of the log on a desk's record in place. Every act is done here, one just given too: the decoder stands in one loop,
+// where the compiler keeps the state in registers.
+fn replay_in_place(desk: &mut [u8], start: State, log: &[u8], from: usize, count: usize) -> State
+    requires { ⌜ (isValid (now desk) ≡ true) × (start ≡ stateOf (now desk)) × (start .acts + count ≤ 16000) × ((from + count) * 3 ≤ length (now log)) × (from + count ≤ 16000) × (areFormed (now log) from count ≡ true) ⌝ }
+    ensures { λ r. ⌜ (now (desk .exit) ≡ recordOf (replayOf captionDecoder (readOf (now (desk .entry))) (now (log .entry)) from count))
+        × (r ≡ replayOf captionDecoder (readOf (now (desk .entry))) (now (log .entry)) from count .state) ⌝ }
 {
-    let start = record::read_state(desk);
     let end = replay(start, &mut desk[64..1984], log, from, count);
     record::write_head(&mut desk[0..64], end);
+    end
 }
 
 // The desk's record with m acts to stand, made anew from the start.
@@ -166,20 +168,11 @@ pub fn restore(desk: &mut [u8], log: &[u8], tray: &[u8], m: usize)
     let s = m / 1000;
     let from = s * 1000;
     write_start(desk, tray, s);
-    replay_in_place(desk, log, from, m - from);
+    let start = record::read_state(desk);
+    replay_in_place(desk, start, log, from, m - from);
 }
 
-// One act on a desk's record in place.
-fn step_in_place(desk: &mut [u8], state: State, kind: u8, first: u8, second: u8) -> State
-    requires { ⌜ (isValid (now desk) ≡ true) × (state ≡ stateOf (now desk)) × (state .acts < 16000) ⌝ }
-    ensures { λ r. ⌜ (now (desk .exit) ≡ recordOf (afterOf (now (desk .entry)) kind first second)) × (r ≡ afterOf (now (desk .entry)) kind first second .state) ⌝ }
-{
-    let next = step(state, &mut desk[64..1984], kind, first, second);
-    record::write_head(&mut desk[0..64], next);
-    next
-}
-
-// An act on a desk: its record in place, its three bytes in the log, its slot where one is due.
+// An act on a desk: its three bytes in the log, its record in place, its slot where one is due.
 pub fn give(
     desk: &mut [u8],
     log: &mut [u8],
@@ -189,11 +182,12 @@ pub fn give(
     first: u8,
     second: u8,
 ) -> u16
-    requires { ⌜ Ready (now desk) (now log) (now tray) × (state ≡ stateOf (now desk)) ⌝ }
+    requires { ⌜ Ready (now desk) (now log) (now tray) × (state ≡ stateOf (now desk)) × (isFormed kind first second ≡ true) ⌝ }
     ensures { λ r. ⌜ Given (now (desk .entry)) (now (log .entry)) (now (tray .entry)) kind first second r (now (desk .exit)) (now (log .exit)) (now (tray .exit)) ⌝ }
 {
-    let next = step_in_place(desk, state, kind, first, second);
-    write_act(log, state.acts, kind, first, second);
+    let acts = state.acts;
+    write_act(log, acts, kind, first, second);
+    let next = replay_in_place(desk, state, log, acts as usize, 1);
     keep(tray, next, &desk[64..1984]);
     next.acts
 }

@@ -6,6 +6,7 @@ use Prim.Native.Nat.{_<_}
 use lib.ListN.{length}
 use denote.Ref.{now}
 use borrow.Author.Needs.{needs}
+use Rattle.standing.proofs.Acts.{isFormed-allowed}
 use Rattle.standing.proofs.Ways.{give-unfit, give-invalid, give-no-channel, give-full}
 use Rattle.tray.proofs.Laws.{actOf-select}
 use Rattle.standing.specs.Acts.{select}
@@ -43,10 +44,11 @@ read-state-requires c κs = sized (then1 (c .before .before .before)) .desk-size
 give-requires : tie.Need-give-requires
 give-requires c κs =
     let t = c .before .before .before in
-    let u = t .before .before .before .before .before in
+    let f = t .before .before .before in
+    let u = f .before .before in
     let z = sized (then1 u) in
     let read = t .before .read-state .ensures in
-    (record { log-size = z .log-size; tray-size = z .tray-size; valid = valid u; room = subst (λ (s : State). s .acts < 16000) read (t .if4 .taken) }, read)
+    (record { log-size = z .log-size; tray-size = z .tray-size; valid = valid u; room = subst (λ (s : State). s .acts < 16000) read (t .if4 .taken) }, read, isFormed-allowed (select (entry (then1 u) .args .channel)) (sym (f .before .is-channel .ensures) ∙ f .if3 .taken))
 
 returns : tie.Need-returns
 returns c =

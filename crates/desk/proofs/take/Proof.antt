@@ -5,6 +5,7 @@ use Prim.Native.Nat.{_<_}
 use lib.ListN.{length}
 use denote.Ref.{now}
 use borrow.Author.Needs.{needs}
+use Rattle.standing.proofs.Acts.{isFormed-allowed}
 use Rattle.standing.proofs.Ways.{give-unfit, give-invalid, give-full}
 use Rattle.tray.proofs.Laws.{actOf-pair}
 use Rattle.standing.specs.Acts.{pair}
@@ -45,7 +46,8 @@ give-requires c κs =
     let u = t .before .before .before in
     let z = sized (then1 u) in
     let read = t .before .read-state .ensures in
-    (record { log-size = z .log-size; tray-size = z .tray-size; valid = valid u; room = subst (λ (s : State). s .acts < 16000) read (t .if3 .taken) }, read)
+    let a = entry (then1 u) .args in
+    (record { log-size = z .log-size; tray-size = z .tray-size; valid = valid u; room = subst (λ (s : State). s .acts < 16000) read (t .if3 .taken) }, read, isFormed-allowed (pair (a .first) (a .second)) refl)
 
 returns : tie.Need-returns
 returns c =
