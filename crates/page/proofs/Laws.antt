@@ -1,5 +1,5 @@
 -- What the operations on a memory leave alone: the length of the cells, and every byte outside what each of them names. Assumes nothing.
-use mathlib.Core.Path.{_≡_, refl, ap, _∙_}
+use mathlib.Core.Path.{_≡_, refl, sym, ap, _∙_}
 use mathlib.Core.Logic.{_⊎_, inl, inr, ⊎-elim}
 use mathlib.Core.Bool.{true}
 use mathlib.Core.List.{List, [], _∷_}
@@ -7,7 +7,9 @@ use Prim.Native.Nat.{ℕ, _+_, _-_, _*_, _<_, _≤_}
 use native.Mathlib.Nat.{add-zero, zero-add}
 use native.Mathlib.Omega.{arith}
 use lib.ListN.{length, getD, replicate, length-replicate}
+use lib.Seq.{ext-getD}
 use Rattle.facts.specs.Over.{over, part}
+use Rattle.facts.proofs.Choice.{below-cases}
 use Rattle.facts.proofs.Every.{same-equal, equal-same, blank-at, blank-of}
 use Rattle.facts.proofs.Over.{length-over, before-over, behind-over, in-over, length-part, part-at}
 use Rattle.cell.specs.declared.Row.{Row}
@@ -27,6 +29,26 @@ over-outside d at n s k e h = ⊎-elim (λ low. before-over d at s k low) (λ hi
 -- what lies outside a span lies outside any part of it
 pub outside-part : (at n inner m k : ℕ) → at ≤ inner → inner + m ≤ at + n → Outside at n k → Outside inner m k
 outside-part at n inner m k low high h = ⊎-elim (λ l. inl (omega arith)) (λ g. inr (omega arith)) h
+
+-- a part of d that goes back to its own place, over a list that is d outside it, makes d
+pub over-own : (w d : List ℕ) (at n : ℕ) → length w ≡ length d → at + n ≤ length d
+    → ((k : ℕ) → k < length d → Outside at n k → getD w k 0 ≡ getD d k 0) → over w at (part d at n) ≡ d
+over-own w d at n e fits rest =
+    let s = part d at n in
+    let size = length-part d at n fits in
+    let whole = length-over w at s in
+    ext-getD 0 (over w at s) d (whole ∙ e)
+    (λ k b.
+    let here : k < length d = omega arith in
+    below-cases k at (λ low. before-over w at s k low ∙ rest k here (inl low))
+    (λ from. below-cases k (at + n)
+    (λ below.
+    let at-k : k ≡ at + (k - at) = omega arith in
+    ap (λ (i : ℕ). getD (over w at s) i 0) at-k
+    ∙ in-over w at s (k - at) (omega arith) (omega arith)
+    ∙ part-at d at n (k - at) (omega arith)
+    ∙ ap (λ (i : ℕ). getD d i 0) (sym at-k))
+    (λ high. behind-over w at s k (omega arith) ∙ rest k here (inr high))))
 
 module _ (d : List ℕ) (memory : ℕ) where
   -- The cells keep their length, whatever is done to a memory.

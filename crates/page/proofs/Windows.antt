@@ -1,16 +1,21 @@
--- While the mark is set, non-empty displayed cells lie in the window: kept by a roll, and made by a cut and by a move. Assumes nothing.
-use mathlib.Core.Path.{_≡_, refl}
+-- While the mark is set, non-empty displayed cells lie in the window: kept by a roll, and made by a cut and by a move; so a move to the same row changes nothing. Assumes nothing.
+use mathlib.Core.Path.{_≡_, refl, sym, ap, _∙_}
+use mathlib.Core.Logic.{inr, ⊎-elim}
 use mathlib.Core.Bool.{true}
 use mathlib.Core.List.{List}
-use Prim.Native.Nat.{ℕ, _+_, _-_, _*_, _<_, _≤_}
+use Prim.Native.Nat.{ℕ, _+_, _-_, _*_, _/_, _<_, _≤_}
 use native.Mathlib.Omega.{arith}
+use lib.ListN.{getD}
 use Rattle.facts.specs.Over.{over, part}
+use Rattle.facts.proofs.Choice.{below-cases}
 use Rattle.cell.specs.declared.Row.{Row}
 use Rattle.cell.specs.Code.{isCell}
-use Rattle.cell.proofs.Laws.{empty-isCell}
+use Rattle.cell.proofs.Laws.{empty-isCell, isCell-empty}
 use Rattle.page.specs.Page.{emptyRowsOf, emptyAllOf}
 use Rattle.page.specs.Window.{aboveOf, rollOf, emptyOutsideOf, sharedOf, moveOf}
 use Rattle.page.specs.Cells.{Each, Allowed, Kept}
+use Rattle.page.proofs.Laws.{Outside, over-own, length-emptyAllOf, emptyAllOf-outside}
+use Rattle.page.proofs.Rows.{wiped}
 use Rattle.page.proofs.Each.{each-so, wipe-out, wipe-each, copy-each}
 
 module _ {mark : ℕ} {base : Row} {depth : ℕ} where
@@ -63,3 +68,36 @@ moved-kept old new depth n a b deep from to h =
 pub moveOf-kept : {mark : ℕ} {d : List ℕ} (old new : Row) (depth : ℕ) → old .0 ≤ 15 → new .0 ≤ 15 → Each Allowed d → Each (Kept mark new depth) (moveOf d 0 old new depth)
 unfolding moveOf
 moveOf-kept old new depth from to h = moved-kept old new depth (sharedOf old new depth) (omega arith) (omega arith) (omega arith) from to h
+
+-- both bytes of an empty cell are 0
+cell-none : (d : List ℕ) (k : ℕ) → isCell (getD d (k / 2 * 2) 0) (getD d (k / 2 * 2 + 1) 0) ≡ true → getD d (k / 2 * 2) 0 ≡ 0 → getD d k 0 ≡ 0
+cell-none d k e none =
+    below-cases (k - k / 2 * 2) 1
+    (λ t.
+    let code : k ≡ k / 2 * 2 = omega arith in
+    ap (λ (i : ℕ). getD d i 0) code ∙ none)
+    (λ t.
+    let pen : k ≡ k / 2 * 2 + 1 = omega arith in
+    ap (λ (i : ℕ). getD d i 0) pen ∙ isCell-empty (getD d (k / 2 * 2 + 1) 0) (rw none at e))
+
+-- with the mark set, every displayed byte outside the window is 0
+kept-none : {mark : ℕ} {base : Row} {depth : ℕ} {d : List ℕ} (k : ℕ) → mark ≡ 1 → Each (Kept mark base depth) d → k < 960
+    → Outside (aboveOf base depth * 64) ((base .0 - aboveOf base depth) * 64) k → getD d k 0 ≡ 0
+kept-none {base = base} {depth = depth} {d = d} k set h shown out =
+    let cell = h .at (k / 2) (omega arith) in
+    cell-none d k (cell .allowed) (⊎-elim (λ low. cell .above set (omega arith)) (λ high. cell .below set (omega arith) (omega arith)) out)
+
+-- A preamble on the same base row moves nothing: with the mark set the window stays, and outside it there is nothing to empty
+pub moveOf-same : {mark : ℕ} {d : List ℕ} (old new : Row) (depth : ℕ) → old .0 ≡ new .0 → old .0 ≤ 15 → mark ≡ 1 → Each (Kept mark old depth) d
+    → moveOf d 0 old new depth ≡ d
+unfolding moveOf emptyAllOf
+moveOf-same {d = d} old new depth e high set h =
+    let n = sharedOf old new depth in
+    let size = h .size in
+    let place : 0 + (new .0 - n) * 64 ≡ aboveOf old depth * 64 = omega arith in
+    let source : 0 + (old .0 - n) * 64 ≡ aboveOf old depth * 64 = omega arith in
+    let span : n * 64 ≡ (old .0 - aboveOf old depth) * 64 = omega arith in
+    (λ i. over (emptyAllOf d 0) (place i) (part d (source i) (span i)))
+    ∙ over-own (emptyAllOf d 0) d (aboveOf old depth * 64) ((old .0 - aboveOf old depth) * 64) (length-emptyAllOf d 0) (omega arith)
+    (λ k b out. below-cases k 960 (λ shown. wiped d 0 960 k (omega arith) (omega arith) (omega arith) ∙ sym (kept-none k set h shown out))
+    (λ other. emptyAllOf-outside d 0 k (inr (omega arith))))

@@ -1,4 +1,4 @@
--- What is typed at the cursor keeps sound captions sound; two codes one after the other. Assumes nothing.
+-- What is typed at the cursor keeps sound captions sound; a preamble on the same base row; two codes one after the other. Assumes nothing.
 use mathlib.Core.Path.{_≡_, refl, ap, sym, _∙_}
 use mathlib.Core.Bool.{Bool, true, false}
 use mathlib.Core.List.{List}
@@ -16,10 +16,10 @@ use Rattle.cell.proofs.Laws.{isCell-of, isPen-midRowPenOf, isPen-flashPenOf, wi
 use Rattle.page.specs.Page.{writeCellOf}
 use Rattle.page.proofs.Laws.{length-writeCellOf}
 use Rattle.page.proofs.Each.{writeCellOf-each, emptyCellOf-each, emptyFromOf-each}
-use Rattle.page.proofs.Windows.{kept-empty, kept-in, kept-allowed, moveOf-kept}
+use Rattle.page.proofs.Windows.{kept-empty, kept-in, kept-allowed, moveOf-kept, moveOf-same}
 use Rattle.state.specs.declared.Mode.{Mode}
 use Rattle.state.specs.State.{Captions, captions}
-use Rattle.state.specs.Style.{isReady, cursorOf, withCursor, memoryOf}
+use Rattle.state.specs.Style.{rollUp, isReady, cursorOf, cursors, withCursor, memoryOf}
 use Rattle.state.specs.Ranges.{Ranged, Sound}
 use Rattle.state.proofs.Laws.{cursorOf-placed, roll-ranged, withCursor-ranged, withCursor-kept, spot, withCursor-own, withCursor-twice, cursorOf-withCursor, memoryOf-withCursor, isReady-withCursor}
 use Rattle.typing.specs.Typing.{writeOf, writeAnyOf, passedOf, putOf, turnedOf, attributeOf, midRowOf, fonOf, bsOf, derOf, tabbedOf, movedOf, preambleOf}
@@ -91,6 +91,14 @@ module _ (d : Captions) (h : Sound d) where
         cells = moveOf-kept (m .roll .row) (to .row) (m .depth) (r .roll .place .row-high) (p .place .row-high) (kept-allowed (h .cells));
       })
       (λ t. record { ranged = withCursor-ranged m r to p; cells = rw t (h .cells) })
+
+  -- a preamble on the same base row moves nothing: in roll-up the mark is set, so what is displayed lies in the window already
+  pub movedOf-same : (to : Cursor) → d .mode .style ≡ rollUp → d .mode .roll .row .0 ≡ to .row .0
+      → movedOf d to ≡ captions (cursors (d .mode) to (d .mode .pop) (d .mode .paint)) (d .cells)
+  unfolding movedOf
+  movedOf-same to e same =
+      ap (λ (l : List ℕ). captions (cursors m to (m .pop) (m .paint)) l)
+      (moveOf-same (m .roll .row) (to .row) (m .depth) same (r .roll .place .row-high) (r .style .rolls e) (h .cells))
 
 pub attributeOf-sound : (d : Captions) (pen : ℕ) → isPen pen ≡ true → 1 ≤ d .mode .style → Sound d → Sound (attributeOf d pen)
 unfolding attributeOf turnedOf withCursor isCode

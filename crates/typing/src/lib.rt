@@ -12,6 +12,7 @@ ghost use Rattle.cell.specs.Pen.{isPen};
 ghost use Rattle.cell.specs.Cursor.{Placed};
 ghost use Rattle.page.specs.Page.{Holds};
 ghost use Rattle.state.specs.State.{captions};
+ghost use Rattle.state.specs.Style.{rollUp};
 ghost use Rattle.state.specs.Ranges.{Ranged, Sound};
 ghost use Rattle.typing.specs.Typing.{writeOf, writeAnyOf, passedOf, putOf, attributeOf, midRowOf, fonOf, bsOf, derOf, tabbedOf, movedOf, preambleOf};
 
@@ -117,16 +118,19 @@ pub fn tabbed(mode: Mode, n: u8) -> Mode
     mode.with_cursor(c.tab(n))
 }
 
-// The window moves to the new base row.
+// The window moves to the new base row. A preamble on the same base row, as live captions send at every line, moves nothing: no cell is touched.
 fn moved(mut mode: Mode, cells: &mut [u8], to: Cursor) -> Mode
-    requires { ⌜ Sound (captions mode (now cells)) × Placed to ⌝ }
+    requires { ⌜ Sound (captions mode (now cells)) × Placed to × (mode .style ≡ rollUp) ⌝ }
     ensures { λ r. ⌜ captions r (now (cells .exit)) ≡ movedOf (captions mode (now (cells .entry))) to ⌝ }
 {
     let from = mode.roll;
     let old = from.row;
     let new = to.row;
-    page::move_window(cells, page::DISPLAYED, old, new, mode.depth);
     mode.roll = to;
+    if old.0 == new.0 {
+        return mode;
+    }
+    page::move_window(cells, page::DISPLAYED, old, new, mode.depth);
     mode
 }
 
