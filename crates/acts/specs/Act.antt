@@ -8,7 +8,8 @@ use Rattle.codes.specs.declared.Code.{Code}
 use Rattle.codes.specs.declared.Code.the-variants.{Unassigned, MidRow, Special, Tab, Preamble, Rcl, Bs, Der, Ru, Fon, Rdc, Tr, Rtd, Edm, Cr, Enm, Eoc}
 use Rattle.state.specs.State.{Captions}
 use Rattle.state.specs.Style.{isReady}
-use Rattle.typing.specs.Typing.{writeOf, midRowOf, fonOf, bsOf, derOf, tabbedOf, preambleOf}
+use Rattle.typing.specs.Typing.{writeOf, midRowOf, fonOf}
+use Rattle.placing.specs.Placing.{bsOf, derOf, tabbedOf, preambleOf}
 use Rattle.styles.specs.Styles.{rclOf, rdcOf, textOf, edmOf, enmOf, eocOf, ruOf, crOf}
 
 -- "Preamble, mid-row, special, tab, BS, DER, FON and CR act only with a style set and Text off."

@@ -39,16 +39,16 @@ fn done(mode: Mode, cells: &mut [u8], code: Code) -> Mode
     ensures { λ r. ⌜ captions r (now (cells .exit)) ≡ doneOf (captions mode (now (cells .entry))) code ⌝ }
 {
     match code {
-        Code::Preamble(row, column, pen) => typing::preamble(
+        Code::Preamble(row, column, pen) => placing::preamble(
             mode,
             cells,
             Cursor { row, column, pen },
         ),
         Code::MidRow(b) => typing::mid_row(mode, cells, b),
         Code::Special(code) => typing::write(mode, cells, code),
-        Code::Tab(n) => typing::tabbed(mode, n),
-        Code::Bs => typing::bs(mode, cells),
-        Code::Der => typing::der(mode, cells),
+        Code::Tab(n) => placing::tabbed(mode, n),
+        Code::Bs => placing::bs(mode, cells),
+        Code::Der => placing::der(mode, cells),
         Code::Fon => typing::fon(mode, cells),
         Code::Cr => styles::cr(mode, cells),
         Code::Unassigned => mode,

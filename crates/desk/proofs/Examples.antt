@@ -13,10 +13,11 @@ use Rattle.cell.specs.Cursor.{afterWriteOf, backOf, tabOf, preambleColumnOf}
 use Rattle.codes.specs.Rows.{preambleRowOf}
 use Rattle.codes.specs.Codes.{channelOf, withoutChannelOf, midRowOrSpecialOf, tabOffsetOf, preambleCodeOf, channelOneCodeOf, codeOf}
 use Rattle.page.specs.Page.{writeCellOf, emptyCellOf, emptyFromOf, emptyRowsOf, emptyAllOf, exchangedOf}
-use Rattle.page.specs.Window.{rollOf, emptyOutsideOf, moveOf}
+use Rattle.window.specs.Window.{rollOf, emptyOutsideOf, moveOf}
 use Rattle.state.specs.State.{Desk}
 use Rattle.state.specs.Style.{isReady, cursorOf, withCursor, memoryOf}
-use Rattle.typing.specs.Typing.{writeOf, turnedOf, attributeOf, midRowOf, fonOf, bsOf, derOf, tabbedOf, movedOf, preambleOf}
+use Rattle.typing.specs.Typing.{writeOf, turnedOf, attributeOf, midRowOf, fonOf}
+use Rattle.placing.specs.Placing.{bsOf, derOf, tabbedOf, movedOf, preambleOf}
 use Rattle.styles.specs.Styles.{rclOf, rdcOf, textOf, edmOf, enmOf, eocOf, openedOf, framedOf, ruOf, crOf}
 use Rattle.acts.specs.Act.{gated, actOf}
 use Rattle.decode.specs.Pair.{clearedOf, typeOf, asTextOf, ruleOneOf, ruleTwoOf, controlOf, ruleThreeOf, ruleFourOf, pairOf}

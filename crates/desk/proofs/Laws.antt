@@ -10,7 +10,7 @@ use Rattle.facts.specs.Over.{over}
 use Rattle.state.specs.declared.State.{State}
 use Rattle.decode.specs.Step.{takenOf}
 use Rattle.record.specs.Layout.{stateOf, readOf, recordOf}
-use Rattle.record.specs.Valid.{isValid}
+use Rattle.valid.specs.Valid.{isValid}
 use Rattle.standing.specs.Acts.{Act, isAllowed, entryOf, actOf}
 use Rattle.standing.specs.Calls.{Buffers, three, Given, Outcome, done, need, isFit, keepOf, openOf, giveOf, takeOf, actedOf, isReplayable, steppedOf, backOf}
 use Rattle.standing.proofs.Ways.{give-done}

@@ -9,8 +9,9 @@ use Rattle.facts.specs.Choice.{pick}
 use Rattle.state.specs.State.{Desk}
 use Rattle.decode.specs.Step.{takenOf}
 use Rattle.record.specs.Layout.{readOf, recordOf}
-use Rattle.record.specs.Valid.{isValid}
-use Rattle.record.proofs.Laws.{readOf-recordOf, recordOf-readOf}
+use Rattle.record.proofs.Laws.{readOf-recordOf}
+use Rattle.valid.specs.Valid.{isValid}
+use Rattle.valid.proofs.Laws.{recordOf-readOf}
 use Rattle.standing.specs.Acts.{Act, isAllowed}
 use Rattle.standing.specs.Calls.{Buffers, opened, refused, isFit, isReplayable, openOf, giveOf, takeOf, backOf}
 use Rattle.standing.specs.Runs.{Ask, Call, callOf, after, Fair, alone, standing}

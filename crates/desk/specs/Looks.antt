@@ -10,7 +10,7 @@ use Rattle.facts.specs.Choice.{pick}
 use Rattle.facts.specs.Over.{part}
 use Rattle.cell.specs.Place.{rowNumber}
 use Rattle.page.specs.Page.{displayed, countRowOf}
-use Rattle.record.specs.Valid.{isValid}
+use Rattle.valid.specs.Valid.{isValid}
 use Rattle.standing.specs.Calls.{Given, gives}
 
 -- "row not 1–15"

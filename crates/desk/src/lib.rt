@@ -39,7 +39,7 @@ pub fn take(desk: &mut [u8], log: &mut [u8], tray: &mut [u8], first: u8, second:
         ≡ takeOf captionDecoder (now (desk .entry)) (now (log .entry)) (now (tray .entry)) first second ⌝ }
 {
     if tray::is_sized(desk.len(), log.len(), tray.len()) {
-        if record::is_valid(desk) {
+        if valid::is_valid(desk) {
             let state = record::read_state(desk);
             let acts = state.acts;
             if acts < 16000 {
@@ -58,7 +58,7 @@ pub fn select(desk: &mut [u8], log: &mut [u8], tray: &mut [u8], channel: u8) -> 
         ≡ selectOf captionDecoder (now (desk .entry)) (now (log .entry)) (now (tray .entry)) channel ⌝ }
 {
     if tray::is_sized(desk.len(), log.len(), tray.len()) {
-        if record::is_valid(desk) {
+        if valid::is_valid(desk) {
             if tray::is_channel(channel) {
                 let state = record::read_state(desk);
                 let acts = state.acts;
@@ -80,7 +80,7 @@ pub fn back(desk: &mut [u8], log: &mut [u8], tray: &mut [u8], k: u32) -> Answer
         ≡ backOf captionDecoder (now (desk .entry)) (now (log .entry)) (now (tray .entry)) k ⌝ }
 {
     if tray::is_sized(desk.len(), log.len(), tray.len()) {
-        if record::is_valid(desk) {
+        if valid::is_valid(desk) {
             let state = record::read_state(desk);
             let acts = state.acts as u32;
             if k <= acts {
@@ -107,7 +107,7 @@ pub fn row(desk: &[u8], number: u8) -> Answer
     ensures { λ r. ⌜ given r ≡ rowOf (now (desk .entry)) number ⌝ }
 {
     if desk.len() == 1984 {
-        if record::is_valid(desk) {
+        if valid::is_valid(desk) {
             if (1 <= number) & (number <= 15) {
                 let filled = page::count_row(&desk[64..1984], page::DISPLAYED, Row(number));
                 return Answer::Done(filled as u16);
@@ -123,7 +123,7 @@ pub fn row(desk: &[u8], number: u8) -> Answer
 pub fn view(desk: &[u8]) -> &[u8]
     ensures { λ r. ⌜ now r ≡ viewOf (now (desk .entry)) ⌝ }
 {
-    if record::is_valid(desk) {
+    if valid::is_valid(desk) {
         return &desk[64..1024];
     }
     &desk[0..0]
@@ -134,7 +134,7 @@ pub fn view_number(desk: &[u8]) -> Answer
     ensures { λ r. ⌜ given r ≡ viewNumberOf (now (desk .entry)) ⌝ }
 {
     if desk.len() == 1984 {
-        if record::is_valid(desk) {
+        if valid::is_valid(desk) {
             return Answer::Done(0);
         }
         return Answer::Invalid;

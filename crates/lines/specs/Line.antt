@@ -1,5 +1,5 @@
 -- The bytes of the register's lines: the header, a line for each row of a run, and a refusal.
--- Paper 01, "Reel and register"; readings 35 to 39.
+-- Paper 01, "Reel and register"; docs/DECISIONS.md, "Register".
 -- Assumes nothing.
 use mathlib.Core.Path.{_≡_}
 use mathlib.Core.List.{List, [], _∷_, _++_}

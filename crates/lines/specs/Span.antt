@@ -1,5 +1,5 @@
 -- Which cells of a row the register prints: from the first to the last non-empty one.
--- Paper 01, "Reel and register": "cell codes .. from the first to the last non-empty cell"; readings 37 and 38.
+-- Paper 01, "Reel and register": "cell codes .. from the first to the last non-empty cell"; docs/DECISIONS.md, "Register".
 -- Assumes nothing.
 use mathlib.Core.Bool.{_&&_}
 use mathlib.Core.List.{List}

@@ -5,7 +5,7 @@ use Prim.Native.Nat.{ℕ, _≤_}
 use native.Mathlib.Omega.{arith}
 use lib.ListN.{length, drop, length-take}
 use Rattle.facts.proofs.Choice.{pick-cases}
-use Rattle.record.specs.Valid.{isValid}
+use Rattle.valid.specs.Valid.{isValid}
 use Rattle.standing.specs.Calls.{Given, Outcome, outcome}
 use Rattle.desk.specs.Looks.{viewOf}
 use Rattle.loikrasun.specs.Packed.{packedOf, ended, endedOf}

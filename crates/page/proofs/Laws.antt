@@ -16,7 +16,6 @@ use Rattle.cell.specs.declared.Row.{Row}
 use Rattle.cell.specs.declared.Column.{Column}
 use Rattle.cell.specs.Place.{cellAt}
 use Rattle.page.specs.Page.{writeCellOf, emptyCellOf, emptyFromOf, emptyRowsOf, emptyAllOf, exchangedOf, isEmptyOf, sameScreenOf}
-use Rattle.page.specs.Window.{rollOf, emptyOutsideOf, moveOf}
 
 -- byte k is none of the n from place `at` on
 abbrev pub Outside : ℕ → ℕ → ℕ → Type 0
@@ -73,18 +72,6 @@ module _ (d : List ℕ) (memory : ℕ) where
   unfolding emptyAllOf
   length-emptyAllOf = length-over d _ _
 
-  pub length-rollOf : (base : Row) (depth : ℕ) → length (rollOf d memory base depth) ≡ length d
-  unfolding rollOf emptyRowsOf
-  length-rollOf base depth = simp length-over
-
-  pub length-emptyOutsideOf : (base : Row) (depth : ℕ) → length (emptyOutsideOf d memory base depth) ≡ length d
-  unfolding emptyOutsideOf emptyRowsOf
-  length-emptyOutsideOf base depth = simp length-over
-
-  pub length-moveOf : (old new : Row) (depth : ℕ) → length (moveOf d memory old new depth) ≡ length d
-  unfolding moveOf emptyAllOf
-  length-moveOf old new depth = simp length-over
-
   -- Every byte outside what an operation names stays.
 
   pub writeCellOf-outside : (row : Row) (column : Column) (code pen k : ℕ) → Outside (cellAt memory row column) 2 k
@@ -111,6 +98,11 @@ module _ (d : List ℕ) (memory : ℕ) where
   emptyAllOf-outside k h = over-outside d memory 960 (replicate 960 0) k (length-replicate {A = ℕ} 960 0) h
 
 -- What was written stands there: code, then pen.
+
+-- a memory emptied, as the code wipes it
+pub emptyAllOf-is : (d : List ℕ) (memory : ℕ) → over d memory (replicate 960 0) ≡ emptyAllOf d memory
+unfolding emptyAllOf
+emptyAllOf-is d memory = refl
 
 pub writeCellOf-code : (d : List ℕ) (memory : ℕ) (row : Row) (column : Column) (code pen : ℕ) → cellAt memory row column + 2 ≤ length d
     → getD (writeCellOf d memory row column code pen) (cellAt memory row column) 0 ≡ code

@@ -1,5 +1,2 @@
 -- The laws of `record` that others cite.
 pub mod Laws
-pub mod Rows
-mod Clauses
-mod Cases

@@ -1,4 +1,2 @@
--- The definitions of `record`, in reading order: which byte holds what, which records are valid, and the same test as the code makes it.
+-- The definitions of `record`: which byte holds what.
 pub mod Layout
-pub mod Valid
-pub mod Check

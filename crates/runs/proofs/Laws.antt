@@ -6,17 +6,17 @@ use Prim.Native.Nat.{ℕ, _+_, _-_, _*_, _<_, _≤_}
 use native.Mathlib.Omega.{arith}
 use lib.Dec.{ltb, eqb}
 use lib.ListN.{length, getD, getD-replicate}
-use borrow.Author.Tests.{lt-ltb, le-ltb, ltb-true, eqb-true, eq-eqb}
+use borrow.Author.Tests.{lt-ltb, le-ltb, ltb-true, lt-leb, eqb-true, eq-eqb}
 use Rattle.facts.proofs.Choice.{pick-first, pick-cases, and-left, and-right, and-both, same-test}
 use Rattle.wire.specs.declared.Line.the-variants.{Pair, End}
 use Rattle.wire.specs.Line.{lineAt}
 use Rattle.page.specs.Page.{displayed, sameScreenOf}
 use Rattle.page.proofs.Laws.{isEmptyOf-of, sameScreenOf-equal, equal-sameScreenOf}
-use Rattle.lines.specs.Line.{Run, linesOf}
+use Rattle.lines.specs.Line.{Run, linesOf, refusedOf}
 use Rattle.lines.proofs.Laws.{linesOf-empty}
 use Rattle.runs.specs.Frames.{most, nextOf}
 use Rattle.runs.specs.Runs.{isSame, isSeen, seenOf, emptyScreen}
-use Rattle.runs.specs.Register.{textOf}
+use Rattle.runs.specs.Register.{textOf, refusalOf}
 
 -- What is printed of stretches that show nothing is nothing.
 
@@ -70,3 +70,8 @@ nextOf-line reel frame h = simp (lt-ltb frame most h)
 pub nextOf-full : (reel : List ℕ) (frame : ℕ) → most ≤ frame → nextOf reel frame ≡ End
 unfolding nextOf
 nextOf-full reel frame h = simp (le-ltb frame most h)
+
+-- "Bytes after 16,000 lines give `refused 16001 3`."
+pub refusalOf-full : (size : ℕ) → 80000 < size → refusalOf size 16000 ≡ refusedOf 16001 3
+unfolding refusalOf
+refusalOf-full size h = simp (lt-leb size 80000 h)

@@ -1,5 +1,5 @@
 -- The register of a reel, from its bytes to the whole text.
--- Paper 01, "Reel and register"; readings 35 to 40.
+-- Paper 01, "Reel and register"; docs/DECISIONS.md, "Register" and "Lines".
 -- Assumes nothing.
 use mathlib.Core.List.{List, [], _∷_, _++_}
 use Prim.Native.Nat.{ℕ, _+_, _*_}

@@ -14,10 +14,11 @@ use Rattle.cell.specs.declared.Cursor.{Cursor}
 use Rattle.cell.specs.Place.{cellAt, rowNumber, columnNumber}
 use Rattle.cell.specs.Pen.{isPen}
 use Rattle.cell.specs.Cursor.{Placed, cursor}
-use Rattle.page.specs.Window.{aboveOf}
-use Rattle.page.specs.Cells.{Each, Kept}
+use Rattle.window.specs.Window.{aboveOf}
+use Rattle.page.specs.Cells.{Each}
+use Rattle.window.specs.Cells.{Kept}
 use Rattle.page.proofs.Each.{none-each}
-use Rattle.page.proofs.Windows.{kept-empty}
+use Rattle.window.proofs.LawsOfCells.{kept-empty}
 use Rattle.state.specs.declared.Mode.{Mode}
 use Rattle.state.specs.State.{captions, freshCursor, freshMode}
 use Rattle.state.specs.Style.{isReady, cursorOf, cursors, styled, withCursor, memoryOf}

@@ -4,7 +4,8 @@
 use Prim.Native.Nat.{ℕ, _≤_}
 use mathlib.Core.Path.{_≡_}
 use Rattle.cell.specs.Cursor.{Placed}
-use Rattle.page.specs.Cells.{Each, Kept}
+use Rattle.page.specs.Cells.{Each}
+use Rattle.window.specs.Cells.{Kept}
 use Rattle.state.specs.declared.Mode.{Mode}
 use Rattle.state.specs.State.{Captions}
 use Rattle.state.specs.Style.{rollUp, paintOn}

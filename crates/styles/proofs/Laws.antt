@@ -7,7 +7,7 @@ use borrow.Author.Tests.{eqb-true}
 use Rattle.facts.proofs.Choice.{pick-cases}
 use Rattle.cell.specs.Place.{rowNumber}
 use Rattle.page.proofs.Each.{emptyAllOf-each, exchangedOf-each}
-use Rattle.page.proofs.Windows.{kept-empty, kept-allowed, kept-free, rollOf-kept, emptyOutsideOf-kept}
+use Rattle.window.proofs.LawsOfCells.{kept-empty, kept-allowed, kept-free, rollOf-kept, emptyOutsideOf-kept}
 use Rattle.state.specs.declared.Mode.{Mode}
 use Rattle.state.specs.State.{Captions}
 use Rattle.state.specs.Ranges.{Ranged, Sound}

@@ -9,7 +9,7 @@ use Rattle.cell.specs.declared.Cursor.{Cursor}
 use Rattle.cell.specs.Place.{rowNumber, columnNumber}
 use Rattle.cell.specs.Cursor.{cursor}
 use Rattle.page.specs.Page.{displayed, nonDisplayed, emptyAllOf, exchangedOf}
-use Rattle.page.specs.Window.{rollOf, emptyOutsideOf}
+use Rattle.window.specs.Window.{rollOf, emptyOutsideOf}
 use Rattle.state.specs.State.{Captions, captions}
 use Rattle.state.specs.Style.{rollUp, popOn, paintOn, cursors, styled}
 

@@ -97,7 +97,7 @@ fn framed(mut mode: Mode, cells: &mut [u8], n: u8) -> Mode
     let cursor = mode.roll;
     let base = cursor.row;
     page::empty_all(cells, page::NON_DISPLAYED);
-    page::empty_outside(cells, page::DISPLAYED, base, n);
+    window::empty_outside(cells, page::DISPLAYED, base, n);
     mode.style = ROLL_UP;
     mode.text = 0;
     mode.mark = 1;
@@ -122,7 +122,7 @@ pub fn cr(mut mode: Mode, cells: &mut [u8]) -> Mode
     if style == ROLL_UP {
         let cursor = mode.roll;
         let base = cursor.row;
-        page::roll(cells, page::DISPLAYED, base, mode.depth);
+        window::roll(cells, page::DISPLAYED, base, mode.depth);
         mode.roll = plain_in(base);
         return mode;
     }

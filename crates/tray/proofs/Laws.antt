@@ -17,7 +17,8 @@ use Rattle.decode.specs.Step.{freshDesk}
 use Rattle.decode.specs.Sound.{SoundDesk}
 use Rattle.decode.proofs.Laws.{takenOf-acts, takenOf-sound, selectOf-acts, selectOf-sound, freshDesk-sound, freshDesk-acts}
 use Rattle.record.specs.Layout.{headOf, recordOf}
-use Rattle.record.proofs.Laws.{length-headOf, length-recordOf, readOf-recordOf, isValid-recordOf, in-place, lent-cells}
+use Rattle.record.proofs.Laws.{length-headOf, length-recordOf, readOf-recordOf, in-place, lent-cells}
+use Rattle.valid.proofs.Laws.{isValid-recordOf}
 use Rattle.standing.specs.Acts.{Act, pair, select, isChannel, isFormed, actOf, Meant}
 use Rattle.standing.specs.Decoder.{Lawful}
 use Rattle.standing.specs.Calls.{isSized}

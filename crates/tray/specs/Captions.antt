@@ -5,7 +5,7 @@ use Prim.Native.Nat.{ℕ}
 use Rattle.state.specs.State.{Desk}
 use Rattle.decode.specs.Step.{takenOf, selectOf, freshDesk}
 use Rattle.record.specs.Layout.{recordOf, readOf}
-use Rattle.record.specs.Valid.{isValid}
+use Rattle.valid.specs.Valid.{isValid}
 use Rattle.standing.specs.Acts.{Act, pair, select}
 use Rattle.standing.specs.Decoder.{Decoder}
 

@@ -9,7 +9,7 @@ use lib.ListN.{length}
 use Rattle.facts.specs.Over.{over}
 use Rattle.state.specs.State.{Desk}
 use Rattle.record.specs.Layout.{recordOf, readOf}
-use Rattle.record.specs.Valid.{isValid}
+use Rattle.valid.specs.Valid.{isValid}
 use Rattle.standing.specs.Acts.{actOf}
 use Rattle.standing.specs.Calls.{keepOf}
 use Rattle.tray.specs.Captions.{stepOf, countOf, captionDecoder}

@@ -10,7 +10,7 @@ ghost use Rattle.state.specs.State.{desk};
 ghost use Rattle.decode.specs.Step.{freshDesk};
 ghost use Rattle.decode.specs.Sound.{SoundDesk};
 ghost use Rattle.record.specs.Layout.{stateOf, readOf, recordOf};
-ghost use Rattle.record.specs.Valid.{isValid};
+ghost use Rattle.valid.specs.Valid.{isValid};
 ghost use Rattle.standing.specs.Acts.{isChannel, isFormed, actOf, areFormed};
 ghost use Rattle.standing.specs.Calls.{isSized, keepOf, startOf, isStart, isReplayable, restoredOf, replayOf};
 ghost use Rattle.tray.specs.Captions.{stepOf, countOf, captionDecoder};
@@ -110,7 +110,7 @@ fn is_start(tray: &[u8], s: usize) -> bool
     }
     let at = (s - 1) * 1984;
     let end = at + 1984;
-    let ok = record::is_valid(&tray[at..end]);
+    let ok = valid::is_valid(&tray[at..end]);
     let start = record::read_state(&tray[at..end]);
     ok & ((start.acts as usize) == s * 1000)
 }

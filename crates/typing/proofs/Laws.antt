@@ -1,33 +1,33 @@
--- What is typed at the cursor keeps sound captions sound; a preamble on the same base row; two codes one after the other. Assumes nothing.
-use mathlib.Core.Path.{_≡_, refl, ap, sym, _∙_}
+-- What is written at the cursor keeps sound captions sound; two codes one after the other. Assumes nothing.
+use mathlib.Core.Path.{_≡_, refl, ap, _∙_}
 use mathlib.Core.Bool.{Bool, true, false}
 use mathlib.Core.List.{List}
 use Prim.Native.Nat.{ℕ, _≤_}
 use native.Mathlib.Omega.{arith}
-use lib.Dec.{eqb, leb}
+use lib.Dec.{eqb}
 use lib.ListN.{length}
 use Rattle.facts.specs.Choice.{pick}
 use Rattle.facts.proofs.Choice.{pick-cases}
 use Rattle.cell.specs.declared.Cursor.{Cursor}
 use Rattle.cell.specs.Pen.{isPen}
 use Rattle.cell.specs.Code.{isCode}
-use Rattle.cell.specs.Cursor.{withPen, afterWriteOf, backOf, tabOf, Placed}
-use Rattle.cell.proofs.Laws.{isCell-of, isPen-midRowPenOf, isPen-flashPenOf, withPen-keeps-placed, afterWriteOf-keeps-placed, backOf-keeps-placed, tabOf-keeps-placed}
+use Rattle.cell.specs.Cursor.{withPen, afterWriteOf, Placed}
+use Rattle.cell.proofs.Laws.{isCell-of, isPen-midRowPenOf, isPen-flashPenOf, withPen-keeps-placed, afterWriteOf-keeps-placed}
 use Rattle.page.specs.Page.{writeCellOf}
 use Rattle.page.proofs.Laws.{length-writeCellOf}
-use Rattle.page.proofs.Each.{writeCellOf-each, emptyCellOf-each, emptyFromOf-each}
-use Rattle.page.proofs.Windows.{kept-empty, kept-in, kept-allowed, moveOf-kept, moveOf-same}
+use Rattle.page.proofs.Each.{writeCellOf-each}
+use Rattle.window.proofs.LawsOfCells.{kept-in}
 use Rattle.state.specs.declared.Mode.{Mode}
 use Rattle.state.specs.State.{Captions, captions}
-use Rattle.state.specs.Style.{rollUp, isReady, cursorOf, cursors, withCursor, memoryOf}
+use Rattle.state.specs.Style.{isReady, cursorOf, withCursor, memoryOf}
 use Rattle.state.specs.Ranges.{Ranged, Sound}
-use Rattle.state.proofs.Laws.{cursorOf-placed, roll-ranged, withCursor-ranged, withCursor-kept, spot, withCursor-own, withCursor-twice, cursorOf-withCursor, memoryOf-withCursor, isReady-withCursor}
-use Rattle.typing.specs.Typing.{writeOf, writeAnyOf, passedOf, putOf, turnedOf, attributeOf, midRowOf, fonOf, bsOf, derOf, tabbedOf, movedOf, preambleOf}
+use Rattle.state.proofs.Laws.{cursorOf-placed, withCursor-ranged, withCursor-kept, spot, withCursor-own, withCursor-twice, cursorOf-withCursor, memoryOf-withCursor, isReady-withCursor}
+use Rattle.typing.specs.Typing.{writeOf, writeAnyOf, passedOf, putOf, turnedOf, attributeOf, midRowOf, fonOf}
 
--- the row of a cursor that moves within it
-backOf-row : (c : Cursor) → backOf c .row ≡ c .row
-unfolding backOf
-backOf-row c = pick-cases (λ (x : Cursor). x .row ≡ c .row) (leb (c .column .0) 1) (λ t. refl) (λ t. refl)
+-- who holds mode and cells, and has set the style's cursor, has turned it
+pub turnedOf-set : (m : Mode) (d : List ℕ) (to : Cursor) {n : Mode} → n ≡ withCursor m to → captions n d ≡ turnedOf (captions m d) to
+unfolding turnedOf
+turnedOf-set m d to e = ap (λ (x : Mode). captions x d) e
 
 module _ (d : Captions) (h : Sound d) where
   abbrev m : Mode
@@ -56,49 +56,6 @@ module _ (d : Captions) (h : Sound d) where
             (writeCellOf-each (memoryOf m) (c .row) (c .column) (at .cell) (at .even) code (c .pen)
             (kept-in (isCell-of code (c .pen) e low (placed .pen)) (at .inside)) (h .cells));
       }
-
-  pub bsOf-sound : 1 ≤ d .mode .style → Sound (bsOf d)
-  unfolding bsOf
-  bsOf-sound live =
-      let p = backOf-keeps-placed c placed in
-      let at = spot m (backOf c) r live p (backOf-row c) in
-      pick-cases Sound (leb (c .column .0) 1) (λ t. h)
-      (λ t. record {
-        ranged = withCursor-ranged m r (backOf c) p;
-        cells = withCursor-kept m (backOf c) _ (backOf-row c)
-            (emptyCellOf-each (memoryOf m) (backOf c .row) (backOf c .column) (at .cell) (at .even) (kept-empty (at .cell)) (h .cells));
-      })
-
-  pub derOf-sound : 1 ≤ d .mode .style → Sound (derOf d)
-  unfolding derOf
-  derOf-sound live =
-      let at = spot m c r live placed refl in
-      record {
-        ranged = r;
-        cells = emptyFromOf-each (memoryOf m) (c .row) (c .column) (at .cell) (at .even) (placed .place .column-high) kept-empty (h .cells);
-      }
-
-  pub tabbedOf-sound : (n : ℕ) → Sound (tabbedOf d n)
-  unfolding tabbedOf tabOf
-  tabbedOf-sound n = turnedOf-sound (tabOf c n) (tabOf-keeps-placed c placed n) refl
-
-  pub preambleOf-sound : (to : Cursor) → Placed to → Sound (preambleOf d to)
-  unfolding preambleOf movedOf turnedOf withCursor
-  preambleOf-sound to p =
-      pick-cases Sound (eqb (m .style) 1)
-      (λ t. record {
-        ranged = roll-ranged m r to p;
-        cells = moveOf-kept (m .roll .row) (to .row) (m .depth) (r .roll .place .row-high) (p .place .row-high) (kept-allowed (h .cells));
-      })
-      (λ t. record { ranged = withCursor-ranged m r to p; cells = rw t (h .cells) })
-
-  -- a preamble on the same base row moves nothing: in roll-up the mark is set, so what is displayed lies in the window already
-  pub movedOf-same : (to : Cursor) → d .mode .style ≡ rollUp → d .mode .roll .row .0 ≡ to .row .0
-      → movedOf d to ≡ captions (cursors (d .mode) to (d .mode .pop) (d .mode .paint)) (d .cells)
-  unfolding movedOf
-  movedOf-same to e same =
-      ap (λ (l : List ℕ). captions (cursors m to (m .pop) (m .paint)) l)
-      (moveOf-same (m .roll .row) (to .row) (m .depth) same (r .roll .place .row-high) (r .style .rolls e) (h .cells))
 
 pub attributeOf-sound : (d : Captions) (pen : ℕ) → isPen pen ≡ true → 1 ≤ d .mode .style → Sound d → Sound (attributeOf d pen)
 unfolding attributeOf turnedOf withCursor isCode

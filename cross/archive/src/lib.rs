@@ -1,4 +1,4 @@
-//! The exported functions of `libloikrasun.a` (DESIGN, section 7), declared
+//! The exported functions of `libloikrasun.a`, declared
 //! `extern "C"`, each with a safe wrapper over slices.
 //!
 //! "The result is one `u32`: the paper's number times 65,536, plus the value.

@@ -2,7 +2,7 @@
 
 use paper::numbers::packed;
 
-/// The eight calls, by the signatures of DESIGN, section 7. A result is the
+/// The eight calls, by the signatures of the exported functions. A result is the
 /// paper's number times 65,536, plus the value.
 pub trait Machine {
     /// Opens the desk.

@@ -1,4 +1,4 @@
-//! READINGS 1 to 40: a test for each that a test can show, named after it.
+//! The points that the paper leaves open, settled in docs/DECISIONS.md: a test for each that a test can show.
 
 mod common;
 
@@ -17,20 +17,20 @@ fn returns(pairs: &str) -> usize {
 // Pair rules.
 
 #[test]
-fn r01_rule_1_looks_at_expected_as_it_was_before_this_pair() {
+fn rule_1_looks_at_expected_as_it_was_before_this_pair() {
     assert_eq!(Desk::after("9420 1420").hidden(), "");
     assert_eq!(Desk::after("9420 1420 1420").hidden(), "15@1 7F20");
 }
 
 #[test]
-fn r02_a_null_pair_clears_expected() {
+fn a_null_pair_clears_expected() {
     let desk = Desk::after("9420 8080");
     assert_eq!(desk.desk[EXPECTED..EXPECTED + 2], [0, 0]);
     assert_eq!(returns("94AD 8080 94AD"), 2);
 }
 
 #[test]
-fn r03_a_repeat_clears_expected_so_three_and_four_give_two() {
+fn a_repeat_clears_expected_so_three_and_four_give_two() {
     assert_eq!(returns("94AD"), 1);
     assert_eq!(returns("94AD 94AD"), 1);
     assert_eq!(returns("94AD 94AD 94AD"), 2);
@@ -39,20 +39,20 @@ fn r03_a_repeat_clears_expected_so_three_and_four_give_two() {
 }
 
 #[test]
-fn r03_a_damaged_repeat_clears_expected_too() {
+fn a_damaged_repeat_clears_expected_too() {
     assert_eq!(returns("94AD 14AD"), 1);
     assert_eq!(returns("94AD 14AD 94AD"), 2);
 }
 
 #[test]
-fn r04_bad_second_low_second_and_unassigned_clear_expected() {
+fn bad_second_low_second_and_unassigned_clear_expected() {
     assert_eq!(returns("94AD 942D 94AD"), 2);
     assert_eq!(returns("94AD 94A2 94AD"), 2);
     assert_eq!(returns("94AD 9401 94AD"), 2);
 }
 
 #[test]
-fn r04_text_clears_expected() {
+fn text_clears_expected() {
     let desk = Desk::after("94A7 C180 94AD 80C2 94AD");
     assert_eq!(desk.displayed(), "13@1 41; 14@1 42");
     let desk = Desk::after("9420 C849");
@@ -60,7 +60,7 @@ fn r04_text_clears_expected() {
 }
 
 #[test]
-fn r05_a_pair_of_the_other_channel_becomes_expected_with_its_channel_in_a() {
+fn a_pair_of_the_other_channel_becomes_expected_with_its_channel_in_a() {
     let desk = Desk::after("9420 1CAD");
     assert_eq!(desk.desk[EXPECTED..EXPECTED + 2], [0x1C, 0x2D]);
     assert_eq!(returns("94AD 1CAD 94AD"), 2);
@@ -68,7 +68,7 @@ fn r05_a_pair_of_the_other_channel_becomes_expected_with_its_channel_in_a() {
 }
 
 #[test]
-fn r05_rule_1_drops_a_damaged_repeat_of_the_other_channels_pair() {
+fn rule_1_drops_a_damaged_repeat_of_the_other_channels_pair() {
     // No run reaches this record: the stream is channel 1's.
     let mut desk = Desk::after("9420");
     desk.desk[EXPECTED..EXPECTED + 2].copy_from_slice(&[0x1C, 0x2D]);
@@ -80,14 +80,14 @@ fn r05_rule_1_drops_a_damaged_repeat_of_the_other_channels_pair() {
 }
 
 #[test]
-fn r06_rule_1_does_not_look_at_a() {
+fn rule_1_does_not_look_at_a() {
     assert_eq!(Desk::after("9420 0020").hidden(), "");
     assert_eq!(Desk::after("9420 FF20").hidden(), "");
     assert_eq!(Desk::after("9420 00A0").hidden(), "15@1 7F7F");
 }
 
 #[test]
-fn r07_edm_and_enm_act_without_style_and_in_text() {
+fn edm_and_enm_act_without_style_and_in_text() {
     let both = "9429 C180 9420 C280";
     assert_eq!(Desk::after(both).displayed(), "15@1 41");
     assert_eq!(Desk::after(both).hidden(), "15@1 42");
@@ -103,7 +103,7 @@ fn r07_edm_and_enm_act_without_style_and_in_text() {
 }
 
 #[test]
-fn r07_edm_and_enm_of_the_other_channel_do_not_act() {
+fn edm_and_enm_of_the_other_channel_do_not_act() {
     let desk = Desk::after("9429 C180 9420 C280 1C2C 1CAE");
     assert_eq!(
         (desk.displayed().as_str(), desk.hidden().as_str()),
@@ -112,7 +112,7 @@ fn r07_edm_and_enm_of_the_other_channel_do_not_act() {
 }
 
 #[test]
-fn r08_text_starts_and_ends_only_by_codes_that_act() {
+fn text_starts_and_ends_only_by_codes_that_act() {
     assert_eq!(Desk::after("9420 1C2A").desk[TEXT], 0);
     assert_eq!(Desk::after("9420 942A 1C20").desk[TEXT], 1);
     for end in ["9420", "9429", "9425", "9426", "94A7", "942F"] {
@@ -126,7 +126,7 @@ fn r08_text_starts_and_ends_only_by_codes_that_act() {
 }
 
 #[test]
-fn r08_tr_and_rtd_need_no_style_and_change_nothing_but_text() {
+fn tr_and_rtd_need_no_style_and_change_nothing_but_text() {
     for (start, b) in [("942A", 0x2A), ("94AB", 0x2B)] {
         let mut fresh = Desk::open();
         let mut then = fresh.clone();
@@ -140,7 +140,7 @@ fn r08_tr_and_rtd_need_no_style_and_change_nothing_but_text() {
 }
 
 #[test]
-fn r09_one_gate_for_blocks_text_specials_and_attribute_spaces() {
+fn one_gate_for_blocks_text_specials_and_attribute_spaces() {
     let all = "9137 C849 4849 8049 80C8 91A8 94A8";
     let expect = |pairs: &str, shown: &str| {
         let desk = Desk::after(&format!("{pairs} {all}"));
@@ -158,7 +158,7 @@ fn r09_one_gate_for_blocks_text_specials_and_attribute_spaces() {
 // What the codes do.
 
 #[test]
-fn r10_an_attribute_space_at_column_32_overwrites_column_32() {
+fn an_attribute_space_at_column_32_overwrites_column_32() {
     for space in ["91A8", "94A8"] {
         let desk = Desk::after(&format!("9420 94FE C1C2 43C4 {space}"));
         assert_eq!(desk.hidden(), "15@29 41424380");
@@ -167,7 +167,7 @@ fn r10_an_attribute_space_at_column_32_overwrites_column_32() {
 }
 
 #[test]
-fn r11_a_preamble_sets_the_pen_and_cells_already_there_keep_theirs() {
+fn a_preamble_sets_the_pen_and_cells_already_there_keep_theirs() {
     let desk = Desk::after("9420 91A8 C1C2 94F2 43C4");
     assert_eq!(desk.hidden(), "15@1 804142004344");
     assert_eq!(desk.pens(HIDDEN, 15, 1..7), [4, 4, 4, 0, 0, 0]);
@@ -177,7 +177,7 @@ fn r11_a_preamble_sets_the_pen_and_cells_already_there_keep_theirs() {
 }
 
 #[test]
-fn r12_roll_up_deeper_than_fits_keeps_the_base_row() {
+fn roll_up_deeper_than_fits_keeps_the_base_row() {
     let mut desk = Desk::after("9425 9140 C849");
     assert_eq!(desk.displayed(), "1@1 4849");
     desk.feed("94A7");
@@ -190,7 +190,7 @@ fn r12_roll_up_deeper_than_fits_keeps_the_base_row() {
 }
 
 #[test]
-fn r12_carriage_return_in_a_window_cut_at_row_1() {
+fn carriage_return_in_a_window_cut_at_row_1() {
     let desk = Desk::after("94A7 91E0 C180 94AD C280");
     assert_eq!(desk.displayed(), "1@1 41; 2@1 42");
     let mut desk = desk;
@@ -199,7 +199,7 @@ fn r12_carriage_return_in_a_window_cut_at_row_1() {
 }
 
 #[test]
-fn r13_rows_lost_above_row_1_stay_lost() {
+fn rows_lost_above_row_1_stay_lost() {
     let mut desk = Desk::after("9426 C180 94AD C280 94AD 4380");
     assert_eq!(desk.displayed(), "13@1 41; 14@1 42; 15@1 43");
     desk.feed("91E0");
@@ -209,7 +209,7 @@ fn r13_rows_lost_above_row_1_stay_lost() {
 }
 
 #[test]
-fn r14_a_preamble_on_the_same_base_row_sets_column_and_pen_only() {
+fn a_preamble_on_the_same_base_row_sets_column_and_pen_only() {
     let mut desk = Desk::after("9425 C180 94AD C280");
     let before = desk.displayed();
     desk.feed("94F3");
@@ -222,7 +222,7 @@ fn r14_a_preamble_on_the_same_base_row_sets_column_and_pen_only() {
 }
 
 #[test]
-fn r15_roll_up_eoc_edm_and_enm_leave_the_other_cursors_alone() {
+fn roll_up_eoc_edm_and_enm_leave_the_other_cursors_alone() {
     let cursors = "9420 9240 91A8 C849 9429 154F C849 C849";
     let before = Desk::after(cursors);
     assert_eq!(before.cursor(POP_ON), [3, 4, 4]);
@@ -235,7 +235,7 @@ fn r15_roll_up_eoc_edm_and_enm_leave_the_other_cursors_alone() {
 }
 
 #[test]
-fn r15_roll_up_with_the_mark_set_keeps_its_own_cursor_and_pen() {
+fn roll_up_with_the_mark_set_keeps_its_own_cursor_and_pen() {
     let mut desk = Desk::after("9425 97E0 91A8 C849");
     let before = desk.cursor(ROLL_UP);
     assert_eq!(before, [10, 4, 4]);
@@ -247,7 +247,7 @@ fn r15_roll_up_with_the_mark_set_keeps_its_own_cursor_and_pen() {
 }
 
 #[test]
-fn r16_edm_and_rcl_keep_the_mark() {
+fn edm_and_rcl_keep_the_mark() {
     let desk = Desk::after("9425 97E0 C849 942C 9420 9425");
     assert_eq!(desk.desk[MARK], 1);
     assert_eq!(desk.cursor(ROLL_UP), [10, 3, 0]);
@@ -256,7 +256,7 @@ fn r16_edm_and_rcl_keep_the_mark() {
 }
 
 #[test]
-fn r17_carriage_return_outside_roll_up_does_nothing_at_all() {
+fn carriage_return_outside_roll_up_does_nothing_at_all() {
     for (style, place) in [("9420", POP_ON), ("9429", PAINT_ON)] {
         let before = Desk::after(&format!("{style} 91A8 C849"));
         let mut after = before.clone();
@@ -267,7 +267,7 @@ fn r17_carriage_return_outside_roll_up_does_nothing_at_all() {
 }
 
 #[test]
-fn r18_selecting_gives_the_fresh_state_with_that_channel() {
+fn selecting_gives_the_fresh_state_with_that_channel() {
     for channel in [1, 2] {
         let mut desk = Desk::after("9425 C849 94AD 9420 91A8 C849 942A");
         assert_eq!(desk.select(channel), Ok(8));
@@ -280,7 +280,7 @@ fn r18_selecting_gives_the_fresh_state_with_that_channel() {
 }
 
 #[test]
-fn r18_after_selecting_the_repeat_acts_again() {
+fn after_selecting_the_repeat_acts_again() {
     let mut desk = Desk::after("9420");
     desk.select(1).unwrap();
     desk.feed("9420");
@@ -306,7 +306,7 @@ fn valid(base: &Desk, changes: &[(usize, u8)]) -> bool {
 }
 
 #[test]
-fn r19_bytes_19_to_63_are_zero() {
+fn bytes_19_to_63_are_zero() {
     let desk = Desk::after("9420 C849");
     for place in 19..64 {
         assert!(!valid(&desk, &[(place, 1)]) && !valid(&desk, &[(place, 0x80)]));
@@ -315,7 +315,7 @@ fn r19_bytes_19_to_63_are_zero() {
 }
 
 #[test]
-fn r20_with_the_mark_set_displayed_cells_lie_in_the_window() {
+fn with_the_mark_set_displayed_cells_lie_in_the_window() {
     let desk = Desk::after("9425 C849");
     for row in 1..=15 {
         let shown = Desk::place(DISPLAYED, row, 7);
@@ -332,7 +332,7 @@ fn r20_with_the_mark_set_displayed_cells_lie_in_the_window() {
 }
 
 #[test]
-fn r20_mark_depth_and_style_belong_together() {
+fn mark_depth_and_style_belong_together() {
     let desk = Desk::after("8080");
     for style in 0..=4 {
         for mark in 0..=2 {
@@ -352,7 +352,7 @@ fn r20_mark_depth_and_style_belong_together() {
 }
 
 #[test]
-fn r21_all_three_cursors_have_rows_1_to_15_and_columns_1_to_32() {
+fn all_three_cursors_have_rows_1_to_15_and_columns_1_to_32() {
     let desk = Desk::after("9420 C849");
     for cursor in [ROLL_UP, POP_ON, PAINT_ON] {
         for byte in 0..=255u8 {
@@ -366,7 +366,7 @@ fn r21_all_three_cursors_have_rows_1_to_15_and_columns_1_to_32() {
 }
 
 #[test]
-fn r21_with_the_mark_clear_base_row_and_depth_are_free_of_each_other() {
+fn with_the_mark_clear_base_row_and_depth_are_free_of_each_other() {
     let desk = Desk::after("9429 C849");
     for row in 1..=15 {
         for depth in [0, 2, 3, 4] {
@@ -376,7 +376,7 @@ fn r21_with_the_mark_clear_base_row_and_depth_are_free_of_each_other() {
 }
 
 #[test]
-fn r22_expected_is_none_or_an_assigned_pair_without_parity() {
+fn expected_is_none_or_an_assigned_pair_without_parity() {
     let desk = Desk::after("9420 C849");
     let expected = |a, b| valid(&desk, &[(EXPECTED, a), (EXPECTED + 1, b)]);
     assert!(expected(0, 0) && expected(0x14, 0x2D) && expected(0x1C, 0x2D));
@@ -386,7 +386,7 @@ fn r22_expected_is_none_or_an_assigned_pair_without_parity() {
 }
 
 #[test]
-fn r23_cell_pens_obey_the_rule_of_cursor_pens() {
+fn cell_pens_obey_the_rule_of_cursor_pens() {
     let desk = Desk::after("9420 C849");
     let cell = Desk::place(HIDDEN, 15, 1) + 1;
     for pen in 0..=255u8 {
@@ -398,7 +398,7 @@ fn r23_cell_pens_obey_the_rule_of_cursor_pens() {
 }
 
 #[test]
-fn r23_cell_codes_and_empty_cells() {
+fn cell_codes_and_empty_cells() {
     let desk = Desk::after("9420 C849");
     for memory in [DISPLAYED, HIDDEN] {
         for (row, column) in [(1, 1), (8, 20), (15, 32)] {
@@ -413,7 +413,7 @@ fn r23_cell_codes_and_empty_cells() {
 }
 
 #[test]
-fn r24_take_select_row_and_view_never_look_at_log_and_tray() {
+fn take_select_row_and_view_never_look_at_log_and_tray() {
     let clean = Desk::after("9425 C849");
     let mut dirty = clean.clone();
     dirty.log.fill(0xEE);
@@ -429,7 +429,7 @@ fn r24_take_select_row_and_view_never_look_at_log_and_tray() {
 }
 
 #[test]
-fn r24_the_slot_of_the_new_act_is_overwritten_whatever_it_held() {
+fn the_slot_of_the_new_act_is_overwritten_whatever_it_held() {
     let mut desk = Desk::after("9425 C849");
     desk.tray.fill(0xEE);
     desk.set_acts(1_999);
@@ -453,7 +453,7 @@ fn two_slots() -> Desk {
 }
 
 #[test]
-fn r25_back_looks_only_at_slot_s_and_the_acts_it_needs() {
+fn back_looks_only_at_slot_s_and_the_acts_it_needs() {
     let good = two_slots();
     let mut desk = good.clone();
     desk.slot_mut(1).fill(0xEE);
@@ -470,7 +470,7 @@ fn r25_back_looks_only_at_slot_s_and_the_acts_it_needs() {
 }
 
 #[test]
-fn r25_where_m_is_1000_s_no_act_is_needed_but_the_slot_must_be_valid() {
+fn where_m_is_1000_s_no_act_is_needed_but_the_slot_must_be_valid() {
     let mut desk = two_slots();
     desk.log.fill(0xEE);
     let mut bad = desk.clone();
@@ -484,7 +484,7 @@ fn r25_where_m_is_1000_s_no_act_is_needed_but_the_slot_must_be_valid() {
 }
 
 #[test]
-fn r26_back_0_makes_the_record_anew_and_clears_what_lies_after() {
+fn back_0_makes_the_record_anew_and_clears_what_lies_after() {
     let good = two_slots();
     let mut desk = good.clone();
     desk.desk[Desk::place(DISPLAYED, 15, 1)] = 0x5A;
@@ -496,7 +496,7 @@ fn r26_back_0_makes_the_record_anew_and_clears_what_lies_after() {
 }
 
 #[test]
-fn r27_a_well_formed_act_is_1_and_two_bytes_or_2_channel_0() {
+fn a_well_formed_act_is_1_and_two_bytes_or_2_channel_0() {
     let good = Desk::after("9420 8080 8080");
     let answer = |act: [u8; 3]| {
         let mut desk = good.clone();
@@ -519,7 +519,7 @@ fn r27_a_well_formed_act_is_1_and_two_bytes_or_2_channel_0() {
 }
 
 #[test]
-fn r28_a_start_is_not_compared_with_the_log_before_it() {
+fn a_start_is_not_compared_with_the_log_before_it() {
     let mut desk = two_slots();
     let other = Desk::place(DISPLAYED, 15, 30);
     desk.slot_mut(2)[other] = 0x5A;
@@ -528,7 +528,7 @@ fn r28_a_start_is_not_compared_with_the_log_before_it() {
 }
 
 #[test]
-fn r29_orders_between_2_and_3_and_between_4_and_6() {
+fn orders_between_2_and_3_and_between_4_and_6() {
     let mut full = Desk::open();
     full.set_acts(16_000);
     full.refuses(RANGE, |desk| desk.select(3));
@@ -541,7 +541,7 @@ fn r29_orders_between_2_and_3_and_between_4_and_6() {
 }
 
 #[test]
-fn r30_r32_the_parameters_of_the_calls() {
+fn r32_the_parameters_of_the_calls() {
     type Three<T> = fn(&mut [u8], &mut [u8], &mut [u8], T) -> Answer;
     let _: fn(&[u8], u8) -> Answer = desk::row;
     let _: fn(&[u8]) -> Result<&[u8], Refusal> = desk::view;
@@ -550,7 +550,7 @@ fn r30_r32_the_parameters_of_the_calls() {
 }
 
 #[test]
-fn r31_what_the_calls_give() {
+fn what_the_calls_give() {
     let mut desk = Desk::open();
     assert_eq!(desk.take(0x94, 0x25), Ok(1));
     assert_eq!(desk.take(0xC8, 0x49), Ok(2));
@@ -565,7 +565,7 @@ fn r31_what_the_calls_give() {
 }
 
 #[test]
-fn r33_the_reader_at_the_end_and_on_5() {
+fn the_reader_at_the_end_and_on_5() {
     let reel = reel("9420 C849");
     let mut reader = Reader::new(&reel);
     assert_eq!(reader.next_pair(), Ok(Some((0x94, 0x20))));
@@ -581,7 +581,7 @@ fn r33_the_reader_at_the_end_and_on_5() {
 }
 
 #[test]
-fn r34_the_view_is_bytes_64_to_1023_of_the_record_itself() {
+fn the_view_is_bytes_64_to_1023_of_the_record_itself() {
     let mut desk = Desk::after("9429 C849");
     let part = desk::view(&desk.desk).unwrap();
     assert_eq!(part.as_ptr_range(), desk.desk[64..1024].as_ptr_range());
@@ -600,7 +600,7 @@ fn body(reel: &[u8]) -> String {
 }
 
 #[test]
-fn r35_refused_names_the_bad_lines_own_frame() {
+fn refused_names_the_bad_lines_own_frame() {
     assert_eq!(body(b"9420\n9420\nXXXX\n"), "refused 00003 5\n");
     assert_eq!(body(b"XXXX\n"), "refused 00001 5\n");
     let text = body(b"9429\nC849\n8080\n80\n");
@@ -608,7 +608,7 @@ fn r35_refused_names_the_bad_lines_own_frame() {
 }
 
 #[test]
-fn r35_any_byte_after_16000_lines_gives_3() {
+fn any_byte_after_16000_lines_gives_3() {
     let mut full = b"9429\nC849\n".to_vec();
     full.extend(b"8080\n".repeat(15_998));
     assert_eq!(body(&full), "00002 16000 15 4849\n");
@@ -619,14 +619,14 @@ fn r35_any_byte_after_16000_lines_gives_3() {
 }
 
 #[test]
-fn r36_pens_count_in_equality() {
+fn pens_count_in_equality() {
     // The same letter at the same place, once white and once red.
     let text = body(&reel("9429 C180 9468 C180"));
     assert_eq!(text, "00002 00003 15 41\n00004 00004 15 41\n");
 }
 
 #[test]
-fn r37_spaces_are_non_empty_cells() {
+fn spaces_are_non_empty_cells() {
     for (space, code) in [("8020", "20"), ("9120", "80"), ("91B9", "99")] {
         let pairs = format!("9429 {space}");
         assert_eq!(body(&reel(&pairs)), format!("00002 00002 15 {code}\n"));
@@ -635,13 +635,13 @@ fn r37_spaces_are_non_empty_cells() {
 }
 
 #[test]
-fn r38_empty_cells_before_the_first_are_not_printed_and_between_are_00() {
+fn empty_cells_before_the_first_are_not_printed_and_between_are_00() {
     let text = body(&reel("9429 94F2 97A1 C180 97A2 C280"));
     assert_eq!(text, "00004 00005 15 41\n00006 00006 15 41000042\n");
 }
 
 #[test]
-fn r39_one_space_between_fields_and_a_line_feed_after_every_line() {
+fn one_space_between_fields_and_a_line_feed_after_every_line() {
     assert_eq!(register(b""), "from to row codes\n");
     assert_eq!(register(b"?"), "from to row codes\nrefused 00001 5\n");
     let text = register(&reel("9425 C180 94AD C280"));
@@ -656,7 +656,7 @@ fn r39_one_space_between_fields_and_a_line_feed_after_every_line() {
 }
 
 #[test]
-fn r40_every_kind_of_bad_line_is_5_at_its_own_frame() {
+fn every_kind_of_bad_line_is_5_at_its_own_frame() {
     let bad: [&[u8]; 12] = [
         b"9420\r\n",
         b"942f\n",

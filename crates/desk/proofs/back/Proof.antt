@@ -8,9 +8,9 @@ use denote.Ref.{now}
 use borrow.Author.Needs.{needs}
 use Rattle.standing.proofs.Ways.{back-unfit, back-invalid, back-beyond, back-broken, back-done}
 use Rattle.facts.specs.Over.{over}
-use Rattle.record.proofs.Laws.{isValid-sound}
+use Rattle.valid.proofs.Laws.{isValid-sound}
 use Rattle.state.specs.declared.State.{State}
-use Rattle.record.specs.Valid.{isValid}
+use Rattle.valid.specs.Valid.{isValid}
 use Rattle.standing.proofs.Ways.{Sized, isSized-sizes}
 use Rattle.tray.specs.Captions.{captionDecoder}
 use Rattle.standing.specs.Calls.{Buffers, three, isFit}

@@ -11,7 +11,7 @@ use Rattle.standing.proofs.Ways.{give-unfit, give-invalid, give-no-channel, giv
 use Rattle.tray.proofs.Laws.{actOf-select}
 use Rattle.standing.specs.Acts.{select}
 use Rattle.state.specs.declared.State.{State}
-use Rattle.record.specs.Valid.{isValid}
+use Rattle.valid.specs.Valid.{isValid}
 use Rattle.standing.proofs.Ways.{Sized, isSized-sizes}
 use Rattle.tray.specs.Captions.{captionDecoder}
 use Rattle.standing.specs.Calls.{Buffers, three, isFit}

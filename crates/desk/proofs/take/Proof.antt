@@ -10,7 +10,7 @@ use Rattle.standing.proofs.Ways.{give-unfit, give-invalid, give-full}
 use Rattle.tray.proofs.Laws.{actOf-pair}
 use Rattle.standing.specs.Acts.{pair}
 use Rattle.state.specs.declared.State.{State}
-use Rattle.record.specs.Valid.{isValid}
+use Rattle.valid.specs.Valid.{isValid}
 use Rattle.standing.proofs.Ways.{Sized, isSized-sizes}
 use Rattle.tray.specs.Captions.{captionDecoder}
 use Rattle.standing.specs.Calls.{Buffers, three, isFit}

@@ -2,7 +2,7 @@
 use mathlib.Core.Path.{sym, _∙_}
 use native.Mathlib.Omega.{arith}
 use borrow.Author.Needs.{needs}
-use Rattle.record.proofs.Laws.{isValid-length}
+use Rattle.valid.proofs.Laws.{isValid-length}
 use Rattle.desk.specs.Looks.{viewOf}
 use Rattle.desk.proofs.view.Statement.{statement}
 use Rattle.desk.proofs.view.Tie as tie

@@ -13,7 +13,7 @@ use Rattle.facts.proofs.Over.{length-over}
 use Rattle.state.specs.declared.State.{State}
 use Rattle.state.specs.State.{Desk, desk}
 use Rattle.record.specs.Layout.{readOf, recordOf}
-use Rattle.record.proofs.Laws.{isValid-length}
+use Rattle.valid.proofs.Laws.{isValid-length}
 use Rattle.standing.specs.Acts.{actOf, areFormed}
 use Rattle.standing.specs.Calls.{keepOf, replayOf}
 use Rattle.standing.proofs.Within.{logged-formed, logged-replayed}

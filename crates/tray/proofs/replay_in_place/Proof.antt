@@ -7,7 +7,8 @@ use borrow.Author.Needs.{needs}
 use Rattle.standing.specs.Calls.{replayOf}
 use Rattle.decode.specs.Sound.{SoundDesk}
 use Rattle.state.specs.State.{Desk, desk}
-use Rattle.record.proofs.Laws.{isValid-length, isValid-sound, lent-cells}
+use Rattle.record.proofs.Laws.{lent-cells}
+use Rattle.valid.proofs.Laws.{isValid-length, isValid-sound}
 use Rattle.tray.specs.Captions.{captionDecoder}
 use Rattle.tray.proofs.Laws.{recordOf-in-place}
 use Rattle.tray.proofs.replay_in_place.Statement.{statement}

@@ -8,7 +8,7 @@ use borrow.Author.Needs.{needs}
 use Rattle.standing.proofs.Within.{isReplayable-start, isReplayable-formed, isStart-count, isStart-valid, restored-of}
 use Rattle.standing.specs.Calls.{startOf, replayOf}
 use Rattle.state.specs.declared.State.{State}
-use Rattle.record.specs.Valid.{isValid}
+use Rattle.valid.specs.Valid.{isValid}
 use Rattle.record.specs.Layout.{readOf, recordOf}
 use Rattle.tray.specs.Captions.{countOf, captionDecoder}
 use Rattle.tray.proofs.restore.Statement.{statement}

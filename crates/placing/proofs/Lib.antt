@@ -1,0 +1,2 @@
+-- The laws of `placing` that others cite.
+pub mod Laws

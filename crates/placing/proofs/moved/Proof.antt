@@ -1,0 +1,22 @@
+-- `moved` meets its contract. Assumes nothing.
+use mathlib.Core.Path.{sym}
+use denote.Ref.{now}
+use borrow.Author.Needs.{needs}
+use Rattle.state.specs.State.{captions}
+use Rattle.placing.specs.Placing.{movedOf}
+use Rattle.placing.proofs.Laws.{movedOf-same}
+use Rattle.placing.proofs.moved.Statement.{statement}
+use Rattle.placing.proofs.moved.Tie as tie
+
+returns : tie.Need-returns
+returns c =
+    let start = c .before .before .before .before .before .before .before in
+    let a = start .args in
+    sym (movedOf-same (captions (a .mode) (now (a .cells))) (start .pre .0) (a .to) (start .pre .2) (c .if1 .taken))
+
+returns-2 : tie.Need-returns-2
+unfolding movedOf
+returns-2 c = cc
+
+pub moved-spec : {M : Type 1} → statement M
+moved-spec = tie.close (tie.spec returns (λ c κs. search needs) (λ c. search needs) returns-2)

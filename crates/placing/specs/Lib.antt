@@ -1,0 +1,2 @@
+-- The definitions of `placing`.
+pub mod Placing

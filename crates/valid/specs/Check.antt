@@ -1,0 +1,32 @@
+-- The test of a record as the code makes it: row by row, and what lies outside the window as bytes that are 0.
+-- Paper 01, "Record, log, tray": the line "Valid".
+-- Assumes nothing.
+use Prim.Native.Nat.{ℕ, _+_, _-_, _*_}
+use mathlib.Core.Bool.{Bool, _&&_}
+use mathlib.Core.List.{List}
+use lib.Dec.{eqb}
+use Rattle.facts.specs.Choice.{implies}
+use Rattle.facts.specs.Every.{every, blankOf}
+use Rattle.cell.specs.declared.Row.{Row}
+use Rattle.window.specs.Window.{aboveOf}
+use Rattle.record.specs.Layout.{stateOf}
+use Rattle.valid.specs.Valid.{isValidState, isCellAt}
+
+-- a row is 32 cells, from byte `at` on
+unfoldable pub isRow : List ℕ → ℕ → Bool
+isRow bs at = every (isCellAt bs at) 32
+
+-- fifteen rows of each memory
+unfoldable pub areRows : List ℕ → Bool
+areRows bs = every (λ r. isRow bs (64 + r * 64)) 30
+
+-- with the mark set the displayed rows above the window and those below it are 0
+unfoldable pub isFramed : List ℕ → ℕ → Row → ℕ → Bool
+isFramed bs mark base depth =
+    implies (eqb mark 1) (blankOf bs 64 (aboveOf base depth * 64) && blankOf bs (64 + base .0 * 64) ((15 - base .0) * 64))
+
+-- the whole test of 1,984 bytes
+unfoldable pub checkOf : List ℕ → Bool
+checkOf bs =
+    let m = stateOf bs .mode in
+    isValidState (stateOf bs) && blankOf bs 19 45 && areRows bs && isFramed bs (m .mark) (m .roll .row) (m .depth)

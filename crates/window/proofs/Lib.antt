@@ -1,0 +1,3 @@
+-- The laws of `window` that others cite.
+pub mod LawsOfRows
+pub mod LawsOfCells
