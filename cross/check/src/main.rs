@@ -21,6 +21,7 @@ mod slips;
 
 use std::fmt;
 use std::process::ExitCode;
+use std::thread;
 
 use gen::reels::reels;
 use gen::script::{script, Step};
@@ -88,23 +89,46 @@ impl fmt::Display for Found {
     }
 }
 
-/// Runs scripts until so many calls are made or a difference is found.
+/// How many threads share the scripts.
+const WORKERS: u64 = 2;
+
+/// Runs scripts until so many calls are made or a difference is found. Each
+/// worker has scripts of its own, and the first worker's find is the one told.
 fn run_scripts(
+    left: &(impl Machine + Sync),
+    right: &(impl Machine + Sync),
+    calls: u64,
+    seed: u64,
+) -> Result<u64, Found> {
+    thread::scope(|scope| {
+        let share = |worker| (calls + worker) / WORKERS;
+        let run = |worker| move || run_share(left, right, share(worker), seed, worker);
+        let workers: Vec<_> = (0..WORKERS)
+            .map(|worker| scope.spawn(run(worker)))
+            .collect();
+        let made = |worker: thread::ScopedJoinHandle<_>| worker.join().expect("no worker panics");
+        workers.into_iter().map(made).sum()
+    })
+}
+
+/// One worker's scripts: every so many, from its own number on.
+fn run_share(
     left: &impl Machine,
     right: &impl Machine,
     calls: u64,
     seed: u64,
+    worker: u64,
 ) -> Result<u64, Found> {
     let mut made = 0;
-    let mut number = 0;
+    let mut number = worker;
     while made < calls {
         let (steps, count) = cut_script(seed, number, calls - made);
         if let Some(difference) = run::compare(left, right, &steps) {
-            let place = format!("seed {seed}, script {number}, after {made} calls");
+            let place = format!("seed {seed}, script {number}");
             return Err(shortest(left, right, steps, difference, place));
         }
         made += count;
-        number += 1;
+        number += WORKERS;
     }
     Ok(made)
 }
