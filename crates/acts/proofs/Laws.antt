@@ -16,7 +16,8 @@ use Rattle.state.specs.Ranges.{Sound}
 use Rattle.state.proofs.Laws.{isReady-live}
 use Rattle.typing.proofs.Laws.{writeOf-sound, midRowOf-sound, fonOf-sound}
 use Rattle.placing.proofs.Laws.{bsOf-sound, derOf-sound, tabbedOf-sound, preambleOf-sound}
-use Rattle.styles.proofs.Laws.{rclOf-sound, rdcOf-sound, textOf-sound, edmOf-sound, enmOf-sound, eocOf-sound, ruOf-sound, crOf-sound}
+use Rattle.styles.proofs.Laws.{rclOf-sound, rdcOf-sound, textOf-sound, edmOf-sound, enmOf-sound, eocOf-sound}
+use Rattle.rollup.proofs.Laws.{ruOf-sound, crOf-sound}
 use Rattle.acts.specs.Act.{isGated, gated, doneOf, actOf}
 
 -- Every code.

@@ -10,7 +10,8 @@ use Rattle.state.specs.State.{Captions}
 use Rattle.state.specs.Style.{isReady}
 use Rattle.typing.specs.Typing.{writeOf, midRowOf, fonOf}
 use Rattle.placing.specs.Placing.{bsOf, derOf, tabbedOf, preambleOf}
-use Rattle.styles.specs.Styles.{rclOf, rdcOf, textOf, edmOf, enmOf, eocOf, ruOf, crOf}
+use Rattle.styles.specs.Styles.{rclOf, rdcOf, textOf, edmOf, enmOf, eocOf}
+use Rattle.rollup.specs.Rollup.{ruOf, crOf}
 
 -- "Preamble, mid-row, special, tab, BS, DER, FON and CR act only with a style set and Text off."
 abbrev pub isGated : Code → Bool

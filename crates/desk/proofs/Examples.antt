@@ -18,7 +18,8 @@ use Rattle.state.specs.State.{Desk}
 use Rattle.state.specs.Style.{isReady, cursorOf, withCursor, memoryOf}
 use Rattle.typing.specs.Typing.{writeOf, turnedOf, attributeOf, midRowOf, fonOf}
 use Rattle.placing.specs.Placing.{bsOf, derOf, tabbedOf, movedOf, preambleOf}
-use Rattle.styles.specs.Styles.{rclOf, rdcOf, textOf, edmOf, enmOf, eocOf, openedOf, framedOf, ruOf, crOf}
+use Rattle.styles.specs.Styles.{rclOf, rdcOf, textOf, edmOf, enmOf, eocOf}
+use Rattle.rollup.specs.Rollup.{openedOf, framedOf, ruOf, crOf}
 use Rattle.acts.specs.Act.{gated, actOf}
 use Rattle.decode.specs.Pair.{clearedOf, typeOf, asTextOf, ruleOneOf, ruleTwoOf, controlOf, ruleThreeOf, ruleFourOf, pairOf}
 use Rattle.decode.specs.Step.{takenOf, freshDesk}

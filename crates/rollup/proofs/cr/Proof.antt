@@ -2,9 +2,9 @@
 use native.Mathlib.Omega.{arith}
 use borrow.Author.Tests.{eq-eqb, ne-eqb}
 use borrow.Author.Needs.{needs}
-use Rattle.styles.specs.Styles.{crOf}
-use Rattle.styles.proofs.cr.Statement.{statement}
-use Rattle.styles.proofs.cr.Tie as tie
+use Rattle.rollup.specs.Rollup.{crOf}
+use Rattle.rollup.proofs.cr.Statement.{statement}
+use Rattle.rollup.proofs.cr.Tie as tie
 
 roll-requires : tie.Need-roll-requires
 roll-requires c κs =

@@ -1,8 +1,8 @@
 -- `framed` meets its contract. Assumes nothing.
 use borrow.Author.Needs.{needs}
-use Rattle.styles.specs.Styles.{framedOf}
-use Rattle.styles.proofs.framed.Statement.{statement}
-use Rattle.styles.proofs.framed.Tie as tie
+use Rattle.rollup.specs.Rollup.{framedOf}
+use Rattle.rollup.proofs.framed.Statement.{statement}
+use Rattle.rollup.proofs.framed.Tie as tie
 
 returns : tie.Need-returns
 unfolding framedOf

@@ -1,9 +1,9 @@
 -- `ru` meets its contract. Assumes nothing.
 use borrow.Author.Needs.{needs}
-use Rattle.styles.specs.Styles.{ruOf}
-use Rattle.styles.proofs.Laws.{openedOf-sound}
-use Rattle.styles.proofs.ru.Statement.{statement}
-use Rattle.styles.proofs.ru.Tie as tie
+use Rattle.rollup.specs.Rollup.{ruOf}
+use Rattle.rollup.proofs.Laws.{openedOf-sound}
+use Rattle.rollup.proofs.ru.Statement.{statement}
+use Rattle.rollup.proofs.ru.Tie as tie
 
 framed-requires : tie.Need-framed-requires
 framed-requires c κs = rw (c .before .before .before .opened .ensures) (openedOf-sound _ (c .before .before .before .before .before .before .pre))

@@ -1,9 +1,9 @@
 -- `opened` meets its contract. Assumes nothing.
 use borrow.Author.Tests.{eq-eqb, ne-eqb}
 use borrow.Author.Needs.{needs}
-use Rattle.styles.specs.Styles.{openedOf}
-use Rattle.styles.proofs.opened.Statement.{statement}
-use Rattle.styles.proofs.opened.Tie as tie
+use Rattle.rollup.specs.Rollup.{openedOf}
+use Rattle.rollup.proofs.opened.Statement.{statement}
+use Rattle.rollup.proofs.opened.Tie as tie
 
 returns : tie.Need-returns
 unfolding openedOf

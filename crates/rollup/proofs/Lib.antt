@@ -1,0 +1,2 @@
+-- The laws of `rollup` that others cite.
+pub mod Laws

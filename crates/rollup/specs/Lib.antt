@@ -1,0 +1,2 @@
+-- The definitions of `rollup`.
+pub mod Rollup
