@@ -3,6 +3,7 @@
 use wire::Line;
 ghost use mathlib.Core.Path.{_≡_};
 ghost use Rattle.wire.specs.Line.{lineAt};
+ghost use Rattle.wire.specs.Numbers.{readingOf, readLineOf};
 ghost use Rattle.reel.specs.Walk.{afterOf};
 
 pub struct Reader<'a> {
@@ -30,7 +31,7 @@ pub fn new<'a>(reel: &'a [u8]) -> Reader<'a>
 
 // What stands where the reader is: a pair, the reel's end, or what is no frame line.
 pub fn next<'a>(r: Reader<'a>) -> Line
-    ensures { λ l. ⌜ l ≡ lineAt (now (r .entry .reel)) (r .entry .at) ⌝ }
+    ensures { λ l. ⌜ (l ≡ lineAt (now (r .entry .reel)) (r .entry .at)) × (readingOf l ≡ readLineOf (now (r .entry .reel)) (r .entry .at)) ⌝ }
 {
     wire::read_line(r.reel, r.at)
 }

@@ -1,13 +1,14 @@
 -- The laws about bytes and frame lines that callers cite: bounds, what stands at a place of a reel, both round trips, no second answer. Assumes nothing.
 use mathlib.Core.Path.{_≡_, refl, ap, sym, _∙_}
-use mathlib.Core.Bool.{true}
+use mathlib.Core.Bool.{Bool, true, false}
 use mathlib.Core.List.{List, [], _∷_}
-use Prim.Native.Nat.{ℕ, _+_, _/_, _%_, _<_, _≤_}
+use Prim.Native.Nat.{ℕ, _+_, _*_, _/_, _%_, _<_, _≤_}
 use native.Mathlib.Nat.{div-add-mod'}
 use native.Mathlib.Omega.{arith}
 use lib.Dec.{leb, lit<}
 use lib.ListN.{length, getD, length-take, length-drop}
 use borrow.Author.Tests.{le-leb, lt-leb, lt-ltb, ne-eqb}
+use Rattle.facts.specs.Choice.{pick}
 use Rattle.facts.specs.Over.{part}
 use Rattle.facts.proofs.Choice.{pick-first, pick-second}
 use Rattle.facts.proofs.Every.{agree}
@@ -17,7 +18,7 @@ use Rattle.wire.specs.declared.Written.{Written}
 use Rattle.wire.specs.declared.Written.the-variants.{Done, WrongLength}
 use Rattle.wire.specs.Byte.{lowSeven}
 use Rattle.wire.specs.Line.{digits, digitOf, hexOf, isLine, byteAt, judgeOf, lineAt, lineOf}
-use Rattle.wire.specs.Numbers.{numberOfWritten, valueOfWritten}
+use Rattle.wire.specs.Numbers.{Reading, reading, readingOf, readLineOf, numberOfWritten, valueOfWritten}
 use Rattle.wire.specs.Written.{Outcome, outcome, writeLineOf}
 use Rattle.wire.proofs.Lemmas.{getD-placeOf, part-five, list-five, part-inside, line-size, line-digit, line-feed}
 
@@ -48,6 +49,22 @@ lineAt-short reel at h k =
 pub lineAt-five : (reel : List ℕ) (at : ℕ) → at + 5 ≤ length reel
     → lineAt reel at ≡ judgeOf (getD reel at 0 ∷ getD reel (at + 1) 0 ∷ getD reel (at + 2) 0 ∷ getD reel (at + 3) 0 ∷ getD reel (at + 4) 0 ∷ [])
 lineAt-five reel at h = lineAt-judgeOf reel at (omega arith) ∙ ap judgeOf (part-five reel at h)
+
+-- ---- what is given there
+
+given : (end line : Bool) (first second : ℕ)
+    → readingOf (pick end End (pick line (Pair first second) Bad)) ≡ pick end (reading 0 false 0) (pick line (reading 0 true (first * 256 + second)) (reading 5 false 0))
+given true line first second = refl
+given false true first second = refl
+given false false first second = refl
+
+pub readingOf-lineAt : (reel : List ℕ) (at : ℕ) → readingOf (lineAt reel at) ≡ readLineOf reel at
+unfolding lineAt judgeOf readLineOf
+readingOf-lineAt reel at = let l = part reel at 5 in given (leb (length reel) at) (isLine l) (byteAt l 0) (byteAt l 2)
+
+-- a line and what is given for it, as the clauses have them
+pub read-as : (reel : List ℕ) (at : ℕ) {r : Line} → r ≡ lineAt reel at → (r ≡ lineAt reel at) × (readingOf r ≡ readLineOf reel at)
+read-as reel at e = (e, ap readingOf e ∙ readingOf-lineAt reel at)
 
 -- ---- the line of a pair reads as the pair
 

@@ -5,7 +5,7 @@ ghost use Prim.Native.Nat.{_<_};
 ghost use Rattle.wire.specs.Byte.{isGood, lowSeven};
 ghost use Rattle.wire.specs.Line.{digitOf, hexOf, judgeOf, lineAt};
 ghost use Rattle.wire.specs.Written.{outcome, writeLineOf};
-ghost use Rattle.wire.specs.Numbers.{numberOfWritten, valueOfWritten};
+ghost use Rattle.wire.specs.Numbers.{readingOf, readLineOf, numberOfWritten, valueOfWritten};
 
 // What stands at a place of a reel: the two raw bytes of a frame, the reel's end, or what is no frame line.
 pub enum Line {
@@ -74,7 +74,7 @@ fn judge(p: u8, q: u8, r: u8, s: u8, end: u8) -> Line
 
 // The frame line that stands at place `at` of a reel. It reads five bytes and copies none.
 pub fn read_line(reel: &[u8], at: usize) -> Line
-    ensures { λ r. ⌜ r ≡ lineAt (now (reel .entry)) at ⌝ }
+    ensures { λ r. ⌜ (r ≡ lineAt (now (reel .entry)) at) × (readingOf r ≡ readLineOf (now (reel .entry)) at) ⌝ }
 {
     if reel.len() <= at {
         return Line::End;
