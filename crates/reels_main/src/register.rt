@@ -2,10 +2,8 @@
 use crate::note::wide;
 use libc::STDOUT_FILENO;
 use walk::END;
-ghost use mathlib.Core.Path.{_≡_};
 ghost use Prim.Native.Nat.{_≤_, _<_};
 ghost use lib.ListN.{length};
-ghost use Rattle.walk.specs.Walk.{room};
 
 // The longest register that is printed whole.
 const SCREENFUL: u64 = 2000;
@@ -52,9 +50,8 @@ fn add_piece(before: Told, out: &[u8], n: usize) -> Told
 }
 
 // Piece after piece, as the program `register` prints them; the last one is left in the buffer.
-fn tell(reel: &[u8], cells: &mut [u8], held: &mut [u8], out: &mut [u8]) -> Told
-    requires { ⌜ (length (now cells) ≡ 1920) × (length (now held) ≡ 960) × (room ≤ length (now out)) ⌝ }
-    ensures { λ r. ⌜ r .last ≤ length (now (out .entry)) ⌝ }
+fn tell(reel: &[u8], cells: &mut [u8; 1920], held: &mut [u8; 960], out: &mut [u8; 65536]) -> Told
+    ensures { λ r. ⌜ r .last ≤ length (now (out .exit)) ⌝ }
 {
     let mut t = Told {
         size: 0,
@@ -63,7 +60,7 @@ fn tell(reel: &[u8], cells: &mut [u8], held: &mut [u8], out: &mut [u8]) -> Told
     };
     let mut w = walk::start(cells, held);
     while w.stage < END {
-        let p = walk::next(w, reel, cells, held, out);
+        let p = walk::next_piece(w, reel, cells, held, out);
         w = p.walk;
         t = add_piece(t, out, p.n);
     }

@@ -1,35 +1,105 @@
-// Prints the register of the reel on standard input, and nothing else. All that is worked out is worked out in `runs` and `walk`.
+// Prints the register of the reel on standard input, and nothing else. All that is printed is worked out in `runs` and `walk`.
+// A read that fails prints no register, a write that fails ends it; either says why on standard error.
+use libc::STDIN_FILENO;
+use libc::STDOUT_FILENO;
 use walk::END;
+ghost use mathlib.Core.Bool.{false};
 ghost use mathlib.Core.Path.{_≡_};
-ghost use Prim.Native.Nat.{_≤_};
+ghost use Prim.Native.Nat.{_+_, _≤_};
 ghost use lib.ListN.{length};
-ghost use Rattle.walk.specs.Walk.{room};
+ghost use Rattle.runs.specs.Register.{registerOf};
 
-const INPUT: i32 = 0;
+// How many bytes of the reel there are, how many of them the last read brought, and whether it failed.
+struct Got {
+    n: usize,
+    came: usize,
+    failed: bool,
+}
 
-const OUTPUT: i32 = 1;
+// How many bytes of the register have gone out, and whether a write failed.
+struct Sent {
+    n: usize,
+    failed: bool,
+}
 
-// Piece after piece, until all is given or nobody reads any more.
-fn print(reel: &[u8], cells: &mut [u8], held: &mut [u8], out: &mut [u8])
-    requires { ⌜ (length (now cells) ≡ 1920) × (length (now held) ≡ 960) × (room ≤ length (now out)) ⌝ }
+// One read, behind the first `n` bytes of the reel. At the end of the input none come.
+fn read_more(reel: &mut [u8], n: usize) -> Got
+    requires { ⌜ n ≤ length (now reel) ⌝ }
+    ensures { λ r. ⌜ (r .n ≤ length (now (reel .entry))) × (r .n ≡ n + r .came) ⌝ }
 {
-    let mut w = walk::start(cells, held);
-    while w.stage < END {
-        let p = walk::next(w, reel, cells, held, out);
+    let got = libc::read(STDIN_FILENO, &mut reel[n..]);
+    if got < 0 {
+        os::fail(b"cannot read the reel");
+        return Got {
+            n,
+            came: 0,
+            failed: true,
+        };
+    }
+    let came = io::count(got, &reel[n..]);
+    Got {
+        n: n + came,
+        came,
+        failed: false,
+    }
+}
+
+// Read after read, until the input ends, the reel is full or a read fails.
+fn read_reel(reel: &mut [u8]) -> Got
+    ensures { λ r. ⌜ r .n ≤ length (now (reel .entry)) ⌝ }
+{
+    let mut got = read_more(reel, 0);
+    while (0 < got.came) & (got.n < reel.len()) {
+        got = read_more(reel, got.n);
+    }
+    got
+}
+
+// One piece more: what goes out is counted here and nowhere else.
+fn send(sent: Sent, piece: &[u8]) -> Sent
+    requires { ⌜ sent .n + length (now piece) ≤ 1048707072 ⌝ }
+    ensures { λ r. ⌜ (r .n ≤ sent .n + length (now (piece .entry))) × (r .failed ≡ false → r .n ≡ sent .n + length (now (piece .entry))) ⌝ }
+{
+    if io::write_all(STDOUT_FILENO, piece) {
+        return Sent {
+            n: sent.n + piece.len(),
+            failed: false,
+        };
+    }
+    os::fail(b"cannot write the register");
+    Sent {
+        n: sent.n,
+        failed: true,
+    }
+}
+
+// Piece after piece, until all is given or a write fails. As many bytes go out as the register has.
+fn print(reel: &[u8]) -> Sent
+    ensures { λ r. ⌜ (r .failed ≡ false → r .n ≡ length (registerOf (now (reel .entry)))) ⌝ }
+{
+    let mut cells = [0u8; 1920];
+    let mut held = [0u8; 960];
+    let mut out = [0u8; 65536];
+    let mut w = walk::start(&mut cells, &mut held);
+    let mut sent = Sent {
+        n: 0,
+        failed: false,
+    };
+    while (w.stage < END) & !sent.failed {
+        let p = walk::next_piece(w, reel, &mut cells, &mut held, &mut out);
         let n = p.n;
         w = p.walk;
-        if !io::write_all(OUTPUT, &out[..n]) {
-            return;
-        }
+        sent = send(sent, &out[..n]);
     }
+    sent
 }
 
 // 16,000 lines have 80,000 bytes: one byte more is refused, so no more is read.
 fn main() {
     let mut reel = [0u8; 80001];
-    let n = io::read_full(INPUT, &mut reel);
-    let mut cells = [0u8; 1920];
-    let mut held = [0u8; 960];
-    let mut out = [0u8; 65536];
-    print(&reel[..n], &mut cells, &mut held, &mut out);
+    let got = read_reel(&mut reel);
+    let n = got.n;
+    if !got.failed {
+        print(&reel[..n]);
+    }
 }

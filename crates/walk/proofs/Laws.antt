@@ -5,7 +5,8 @@ use mathlib.Core.List.{List, [], _∷_, _++_, append-assoc, append-nil}
 use Prim.Native.Nat.{ℕ, suc, _+_, _-_, _*_, _≤_}
 use native.Mathlib.Nat.{zero-add, add-zero}
 use native.Mathlib.Omega.{arith}
-use lib.ListN.{length, take}
+use lib.Dec.{eqb}
+use lib.ListN.{length}
 use borrow.Author.Tests.{lt-ltb, le-ltb, ne-eqb}
 use Rattle.facts.specs.Choice.{pick}
 use Rattle.facts.proofs.Choice.{below-cases}
@@ -20,7 +21,21 @@ use Rattle.runs.specs.Frames.{screenOf, onPair, screensFrom, most, nextOf, fram
 use Rattle.runs.specs.Runs.{stretchesFrom, emptyScreen, runsOf}
 use Rattle.runs.specs.Register.{textOf, refusalOf, registerOf}
 use Rattle.runs.proofs.Laws.{textOf-seenOf}
-use Rattle.walk.specs.Walk.{Place, place, walk, startOf, comingOf, bodyOf, restOf, staysOf, shownOf, shownTextOf, finishTextOf, Pieces, last, more}
+use Rattle.walk.specs.Walk.{Place, place, walk, atHeader, atFrames, startOf, staysOf, shownOf, shownTextOf, finishTextOf, headedOf}
+
+-- the screens of the frames that are still to come
+abbrev pub comingOf : Place → List ℕ → List (List ℕ)
+comingOf p reel = screensFrom (most - p .walk .frame) reel (p .walk .frame) (desk (p .walk .state) (p .cells))
+
+-- the lines that are still to come: the stretch that is open, what follows it, and how the reel ends
+unfoldable pub bodyOf : Place → List ℕ → List ℕ
+bodyOf p reel =
+    let ss = comingOf p reel in
+    textOf (stretchesFrom (p .walk .since) (p .walk .frame) (p .held) ss) ++ refusalOf (length reel) (p .walk .frame + length ss)
+
+-- all that is still to come
+unfoldable pub restOf : Place → List ℕ → List ℕ
+restOf p reel = pick (eqb (p .walk .stage) atHeader) (header ++ bodyOf p reel) (pick (eqb (p .walk .stage) atFrames) (bodyOf p reel) [])
 
 -- The frames that are to come, by the line that stands next.
 
@@ -90,7 +105,7 @@ pub rest-none : (p : Place) (reel : List ℕ) → 2 ≤ p .walk .stage → restO
 unfolding restOf
 rest-none p reel h = simp (ne-eqb (p .walk .stage) 0 (λ e. omega arith), ne-eqb (p .walk .stage) 1 (λ e. omega arith))
 
-pub rest-header : (p : Place) (reel : List ℕ) → p .walk .stage ≡ 0 → restOf p reel ≡ header ++ restOf (place (walk 1 (p .walk .frame) (p .walk .since) (p .walk .state)) (p .cells) (p .held)) reel
+pub rest-header : (p : Place) (reel : List ℕ) → p .walk .stage ≡ 0 → restOf p reel ≡ header ++ restOf (headedOf p) reel
 unfolding restOf bodyOf
 rest-header p reel e = simp e
 
@@ -100,12 +115,3 @@ unfolding restOf bodyOf startOf registerOf runsOf framesOf freshDesk
 rest-start reel =
     let ss = framesOf reel in
     (λ i. header ++ (sym (textOf-seenOf (stretchesFrom 0 0 emptyScreen ss)) i ++ refusalOf (length reel) (zero-add (length ss) i)))
-
--- "The runs and the bytes of each line are worked out in the proved part; the program only reads and prints": the pieces joined are the register.
-
-pieces-rest : (reel : List ℕ) {p : Place} {text : List ℕ} → Pieces reel p text → text ≡ restOf p reel
-pieces-rest reel (last {p} h) = sym (rest-none p reel h)
-pieces-rest reel (more {left = left} {m = m} g ps) = ap (λ (l : List ℕ). take m left ++ l) (pieces-rest reel ps) ∙ g .text
-
-pub pieces-registerOf : (reel : List ℕ) {text : List ℕ} → Pieces reel startOf text → text ≡ registerOf reel
-pieces-registerOf reel ps = pieces-rest reel ps ∙ rest-start reel

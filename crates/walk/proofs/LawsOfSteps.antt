@@ -1,8 +1,8 @@
 -- Each step of a walk loses nothing, gives nothing twice, keeps what steps ask, and comes nearer to the end. Assumes nothing.
 use mathlib.Core.Path.{_≡_, refl, ap, sym, subst, _∙_}
 use mathlib.Core.Bool.{Bool}
-use mathlib.Core.List.{List, [], _++_, append-assoc, append-nil}
-use Prim.Native.Nat.{ℕ, _+_, _*_, _<_, _≤_}
+use mathlib.Core.List.{List, [], _++_, append-nil}
+use Prim.Native.Nat.{ℕ, suc, _+_, _*_, _<_, _≤_}
 use native.Mathlib.Omega.{arith}
 use lib.Dec.{eqb}
 use lib.ListN.{length, take, length-replicate}
@@ -10,9 +10,9 @@ use lib.Seq.{length-take-le}
 use borrow.Author.Tests.{le-leb, lt-leb}
 use Rattle.facts.specs.Choice.{pick}
 use Rattle.facts.specs.Over.{over}
-use Rattle.facts.proofs.Choice.{pick-cases}
-use Rattle.facts.proofs.Over.{front-over}
-use Rattle.wire.specs.declared.Line.the-variants.{Pair}
+use Rattle.facts.proofs.Choice.{pick-cases, below-cases}
+use Rattle.wire.specs.declared.Line.{Line}
+use Rattle.wire.specs.declared.Line.the-variants.{Pair, End, Bad}
 use Rattle.state.specs.declared.State.{State}
 use Rattle.state.specs.State.{Desk, desk}
 use Rattle.decode.specs.Pair.{pairOf}
@@ -25,17 +25,8 @@ use Rattle.runs.specs.Frames.{screenOf, most, nextOf}
 use Rattle.runs.specs.Runs.{isSame}
 use Rattle.runs.specs.Register.{refusalOf}
 use Rattle.runs.proofs.Laws.{next-below}
-use Rattle.walk.specs.declared.Walk.{Walk}
-use Rattle.walk.specs.Walk.{Place, place, walk, startOf, comingOf, restOf, staysOf, shownOf, shownTextOf, finishedOf, finishTextOf, Fit, stepsOf, room, Went}
-use Rattle.walk.proofs.Laws.{rest-shown, rest-finish, rest-none, rest-header}
-
--- a text behind the first n bytes of a buffer, and what follows it
-piece : (out : List ℕ) (n : ℕ) (text : List ℕ) (most : ℕ) (rest : List ℕ) {left : List ℕ} {m : ℕ} → n + most ≤ length out → Put out n text most left m
-    → take m left ++ rest ≡ take n out ++ (text ++ rest)
-piece out n text most rest h p =
-    let next = p .next in
-    let small = p .room in
-    (λ i. take (next i) (p .bytes i) ++ rest) ∙ ap (λ (l : List ℕ). l ++ rest) (front-over out n text (omega arith)) ∙ append-assoc (take n out) text rest
+use Rattle.walk.specs.Walk.{Place, place, walk, atEnd, startOf, Fit, stepsOf, staysOf, shownOf, shownTextOf, finishedOf, finishTextOf, onLine, onLineTextOf, headedOf, stepOf, stepTextOf}
+use Rattle.walk.proofs.Laws.{comingOf, restOf, coming-none, rest-shown, rest-finish, rest-none, rest-header}
 
 -- What steps ask is there at the start, and is kept.
 
@@ -93,50 +84,63 @@ refusal-some out n size frame number h e l =
     put-as {text = refusedOf (frame + 1) number} {a = 16} (simp (lt-leb size (frame * 5) h, e)) (omega arith)
     (record { bytes = l; next = ap (λ (k : ℕ). n + k) (sym (length-refusedOf (frame + 1) number)); room = omega arith })
 
--- The three kinds of step.
+-- One step, by what it is.
 
-module _ (p : Place) (reel : List ℕ) (n : ℕ) (out : List ℕ) (f : Fit p) (fits : n + room ≤ length out) where
-  pub went-shown : (first second : ℕ) {q : Place} {m : ℕ} {left : List ℕ} → p .walk .stage ≡ 1 → nextOf reel (p .walk .frame) ≡ Pair first second
-      → q ≡ shownOf p first second → Put out n (shownTextOf p first second) room left m → Went p reel n out q m left
-  unfolding shownOf
-  went-shown first second {q} one e g t =
-      let low = next-below reel (p .walk .frame) e in
-      let small = t .room in
-      record {
-        text =
-            piece out n (shownTextOf p first second) room (restOf q reel) fits t
-            ∙ ap (λ (x : Place). take n out ++ (shownTextOf p first second ++ restOf x reel)) g
-            ∙ ap (λ (l : List ℕ). take n out ++ l) (sym (rest-shown p reel first second e one));
-        fit = subst Fit (sym g) (shown-fit p first second f low);
-        small = small;
-        on = omega (arith, ap (λ (x : Place). stepsOf (x .walk)) g);
-      }
+module _ (p : Place) (reel : List ℕ) where
+  pub step-header : p .walk .stage ≡ 0 → (stepOf p reel ≡ headedOf p) × (stepTextOf p reel ≡ header)
+  unfolding stepOf stepTextOf
+  step-header e = (simp e, simp e)
 
-  pub went-finish : {w : Walk} {m : ℕ} {left : List ℕ} → p .walk .stage ≡ 1 → comingOf p reel ≡ [] → w ≡ finishedOf (p .walk)
-      → Put out n (finishTextOf (p .walk) (p .held) (length reel)) room left m → Went p reel n out (place w (p .cells) (p .held)) m left
+  pub step-line : {l : Line} → p .walk .stage ≡ 1 → nextOf reel (p .walk .frame) ≡ l → (stepOf p reel ≡ onLine l p) × (stepTextOf p reel ≡ onLineTextOf l p (length reel))
+  unfolding stepOf stepTextOf
+  step-line one e = (simp one (ap (λ (x : Line). onLine x p) e), simp one (ap (λ (x : Line). onLineTextOf x p (length reel)) e))
+
+  module _ (P : List ℕ → Place → Type 0) (live : p .walk .stage < atEnd) (head : p .walk .stage ≡ 0 → P header (headedOf p))
+      (line : (l : Line) → p .walk .stage ≡ 1 → nextOf reel (p .walk .frame) ≡ l → P (onLineTextOf l p (length reel)) (onLine l p))
+    where
+      pub step-cases : P (stepTextOf p reel) (stepOf p reel)
+      step-cases =
+          below-cases (p .walk .stage) 1
+          (λ low. let e : p .walk .stage ≡ 0 = omega arith in let s = step-header e in subst (λ (q : Place). P (stepTextOf p reel) q) (sym (s .0)) (subst (λ (t : List ℕ). P t (headedOf p)) (sym (s .1)) (head e)))
+          (λ high.
+          let one : p .walk .stage ≡ 1 = omega arith in
+          let l = nextOf reel (p .walk .frame) in
+          let s = step-line {l = l} one refl in
+          subst (λ (q : Place). P (stepTextOf p reel) q) (sym (s .0)) (subst (λ (t : List ℕ). P t (onLine l p)) (sym (s .1)) (line l one refl)))
+
+-- A step loses nothing and gives nothing twice, keeps what steps ask, and is one step.
+
+module _ (p : Place) (reel : List ℕ) (f : Fit p) (live : p .walk .stage < atEnd) where
+  ended : p .walk .stage ≡ 1 → comingOf p reel ≡ []
+      → finishTextOf (p .walk) (p .held) (length reel) ++ restOf (place (finishedOf (p .walk)) (p .cells) (p .held)) reel ≡ restOf p reel
   unfolding finishedOf
-  went-finish {w} one none g t =
+  ended one none =
       let text = finishTextOf (p .walk) (p .held) (length reel) in
-      let small = t .room in
-      record {
-        text =
-            piece out n text room (restOf (place w (p .cells) (p .held)) reel) fits t
-            ∙ ap (λ (l : List ℕ). take n out ++ (text ++ l)) (rest-none (place w (p .cells) (p .held)) reel (omega (arith, ap (λ (x : Walk). x .stage) g)))
-            ∙ ap (λ (l : List ℕ). take n out ++ l) (append-nil text ∙ sym (rest-finish p reel one none));
-        fit = subst (λ (x : Walk). Fit (place x (p .cells) (p .held))) (sym g) (record { desk = f .desk; held = f .held; frame = f .frame });
-        small = small;
-        on = omega (arith, ap stepsOf g);
-      }
+      ap (λ (l : List ℕ). text ++ l) (rest-none (place (finishedOf (p .walk)) (p .cells) (p .held)) reel (omega arith))
+      ∙ append-nil text ∙ sym (rest-finish p reel one none)
 
-  pub went-header : {left : List ℕ} → p .walk .stage ≡ 0 → left ≡ over out n header
-      → Went p reel n out (place (walk 1 (p .walk .frame) (p .walk .since) (p .walk .state)) (p .cells) (p .held)) (n + 18) left
-  went-header {left} e l =
-      let q = place (walk 1 (p .walk .frame) (p .walk .since) (p .walk .state)) (p .cells) (p .held) in
-      record {
-        text =
-            piece out n header 18 (restOf q reel) (omega arith) (record { bytes = l; next = refl; room = omega arith })
-            ∙ ap (λ (l : List ℕ). take n out ++ l) (sym (rest-header p reel e));
-        fit = record { desk = f .desk; held = f .held; frame = f .frame };
-        small = omega arith;
-        on = omega arith;
-      }
+  pub step-rest : stepTextOf p reel ++ restOf (stepOf p reel) reel ≡ restOf p reel
+  step-rest = step-cases p reel (λ text q. text ++ restOf q reel ≡ restOf p reel) live (λ e. sym (rest-header p reel e)) line
+    where
+      line : (l : Line) → p .walk .stage ≡ 1 → nextOf reel (p .walk .frame) ≡ l → onLineTextOf l p (length reel) ++ restOf (onLine l p) reel ≡ restOf p reel
+      line (Pair first second) one e = sym (rest-shown p reel first second e one)
+      line End one e = ended one (coming-none p reel e refl)
+      line Bad one e = ended one (coming-none p reel e refl)
+
+  pub step-fit : Fit (stepOf p reel)
+  unfolding finishedOf
+  step-fit = step-cases p reel (λ text q. Fit q) live (λ e. record { desk = f .desk; held = f .held; frame = f .frame }) line
+    where
+      line : (l : Line) → p .walk .stage ≡ 1 → nextOf reel (p .walk .frame) ≡ l → Fit (onLine l p)
+      line (Pair first second) one e = shown-fit p first second f (next-below reel (p .walk .frame) e)
+      line End one e = record { desk = f .desk; held = f .held; frame = f .frame }
+      line Bad one e = record { desk = f .desk; held = f .held; frame = f .frame }
+
+  pub step-on : stepsOf (p .walk) ≡ suc (stepsOf (stepOf p reel .walk))
+  unfolding finishedOf shownOf
+  step-on = step-cases p reel (λ text q. stepsOf (p .walk) ≡ suc (stepsOf (q .walk))) live (λ e. omega arith) line
+    where
+      line : (l : Line) → p .walk .stage ≡ 1 → nextOf reel (p .walk .frame) ≡ l → stepsOf (p .walk) ≡ suc (stepsOf (onLine l p .walk))
+      line (Pair first second) one e = omega (arith, next-below reel (p .walk .frame) e)
+      line End one e = omega arith
+      line Bad one e = omega arith

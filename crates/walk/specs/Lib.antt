@@ -1,2 +1,3 @@
--- The definitions of `walk`: the register in pieces.
+-- The definitions of `walk`: one step of the walk over a reel, and the register in pieces.
 pub mod Walk
+pub mod Pieces

@@ -1,22 +1,24 @@
--- The register in pieces: where the walk over a reel stands, what is still to come from there, and what a piece is.
+-- The walk over a reel that prints its register: where it stands, and what one step does and prints.
 -- Paper 01, "Reel and register": "The runs and the bytes of each line are worked out in the proved part; the program only reads and prints."
 -- Assumes nothing.
 use mathlib.Core.Path.{_≡_}
 use mathlib.Core.Bool.{Bool}
 use mathlib.Core.List.{List, [], _++_}
-use Prim.Native.Nat.{ℕ, _+_, _-_, _≤_, _<_}
+use Prim.Native.Nat.{ℕ, _+_, _-_, _≤_}
 use lib.Dec.{eqb}
-use lib.ListN.{length, take, replicate}
+use lib.ListN.{length, replicate}
 use Rattle.facts.specs.Choice.{pick}
+use Rattle.wire.specs.declared.Line.{Line}
+use Rattle.wire.specs.declared.Line.the-variants.{Pair, End, Bad}
 use Rattle.state.specs.declared.State.{State}
 use Rattle.state.specs.State.{desk, freshOf}
 use Rattle.decode.specs.Pair.{pairOf}
 use Rattle.decode.specs.Sound.{SoundDesk}
 use Rattle.lines.specs.Line.{header, run, linesOf}
+use Rattle.runs.specs.Frames.{screenOf, most, nextOf}
+use Rattle.runs.specs.Runs.{isSame, emptyScreen}
+use Rattle.runs.specs.Register.{refusalOf}
 use Rattle.walk.specs.declared.Walk.{Walk}
-use Rattle.runs.specs.Frames.{screenOf, most, screensFrom}
-use Rattle.runs.specs.Runs.{isSame, stretchesFrom, emptyScreen}
-use Rattle.runs.specs.Register.{textOf, refusalOf}
 
 -- what is by value and what is lent: the walk, the cells, and the screen of the stretch that is open
 pub record Place : Type 0 where
@@ -43,19 +45,15 @@ atEnd = 2
 unfoldable pub startOf : Place
 startOf = place (walk atHeader 0 0 (freshOf 1)) (replicate 1920 0) emptyScreen
 
--- the screens of the frames that are still to come
-abbrev pub comingOf : Place → List ℕ → List (List ℕ)
-comingOf p reel = screensFrom (most - p .walk .frame) reel (p .walk .frame) (desk (p .walk .state) (p .cells))
+-- what every step asks and keeps
+pub record Fit (p : Place) : Type 0 where
+  pub desk : SoundDesk (desk (p .walk .state) (p .cells))
+  pub held : length (p .held) ≡ 960
+  pub frame : p .walk .frame ≤ most
 
--- the lines that are still to come: the stretch that is open, what follows it, and how the reel ends
-unfoldable pub bodyOf : Place → List ℕ → List ℕ
-bodyOf p reel =
-    let ss = comingOf p reel in
-    textOf (stretchesFrom (p .walk .since) (p .walk .frame) (p .held) ss) ++ refusalOf (length reel) (p .walk .frame + length ss)
-
--- all that is still to come
-unfoldable pub restOf : Place → List ℕ → List ℕ
-restOf p reel = pick (eqb (p .walk .stage) atHeader) (header ++ bodyOf p reel) (pick (eqb (p .walk .stage) atFrames) (bodyOf p reel) [])
+-- how many steps are left at most
+abbrev pub stepsOf : Walk → ℕ
+stepsOf w = (most - w .frame) + (2 - w .stage)
 
 -- whether the screen after a pair is the one that is held
 abbrev pub staysOf : Place → ℕ → ℕ → Bool
@@ -78,36 +76,24 @@ finishedOf w = walk atEnd (w .frame) (w .since) (w .state)
 unfoldable pub finishTextOf : Walk → List ℕ → ℕ → List ℕ
 finishTextOf w held size = linesOf (run (w .since) (w .frame) held) ++ refusalOf size (w .frame)
 
--- what every step asks and keeps
-pub record Fit (p : Place) : Type 0 where
-  pub desk : SoundDesk (desk (p .walk .state) (p .cells))
-  pub held : length (p .held) ≡ 960
-  pub frame : p .walk .frame ≤ most
+-- by the line that stands next: a pair is shown, all else finishes
+abbrev pub onLine : Line → Place → Place
+onLine (Pair first second) p = shownOf p first second
+onLine End p = place (finishedOf (p .walk)) (p .cells) (p .held)
+onLine Bad p = place (finishedOf (p .walk)) (p .cells) (p .held)
 
--- how many steps are left at most
-abbrev pub stepsOf : Walk → ℕ
-stepsOf w = (most - w .frame) + (2 - w .stage)
+abbrev pub onLineTextOf : Line → Place → ℕ → List ℕ
+onLineTextOf (Pair first second) p size = shownTextOf p first second
+onLineTextOf End p size = finishTextOf (p .walk) (p .held) size
+onLineTextOf Bad p size = finishTextOf (p .walk) (p .held) size
 
--- the longest output of one step: fifteen lines of a run, and a refusal
-abbrev pub room : ℕ
-room = 1216
+-- the header is printed, and nothing else changes
+abbrev pub headedOf : Place → Place
+headedOf p = place (walk atFrames (p .walk .frame) (p .walk .since) (p .walk .state)) (p .cells) (p .held)
 
--- one step behind the first n bytes of a buffer: nothing is lost, and nothing comes twice
-pub record Went (p : Place) (reel : List ℕ) (n : ℕ) (out : List ℕ) (q : Place) (m : ℕ) (left : List ℕ) : Type 0 where
-  pub text : take m left ++ restOf q reel ≡ take n out ++ restOf p reel
-  pub fit : Fit q
-  pub small : m ≤ n + room
-  pub on : stepsOf (q .walk) < stepsOf (p .walk)
+-- one step: the header, or what stands behind the frames that are read
+unfoldable pub stepOf : Place → List ℕ → Place
+stepOf p reel = pick (eqb (p .walk .stage) atHeader) (headedOf p) (onLine (nextOf reel (p .walk .frame)) p)
 
--- a piece from the front of a buffer: the piece and what is then to come are what was to come; a buffer with room takes the walk on unless all is given
-pub record Given (p : Place) (reel : List ℕ) (out : List ℕ) (q : Place) (m : ℕ) (left : List ℕ) : Type 0 where
-  pub text : take m left ++ restOf q reel ≡ restOf p reel
-  pub fit : Fit q
-  pub small : m ≤ length out
-  pub ends : atEnd ≤ q .walk .stage → restOf q reel ≡ []
-  pub on : p .walk .stage < atEnd → room ≤ length out → stepsOf (q .walk) < stepsOf (p .walk)
-
--- pieces from a place on, each given into some buffer, until all is given, with their bytes joined
-pub data Pieces (reel : List ℕ) : Place → List ℕ → Type 0 where
-  last : {p : Place} → atEnd ≤ p .walk .stage → Pieces reel p []
-  more : {p q : Place} {out left text : List ℕ} {m : ℕ} → Given p reel out q m left → Pieces reel q text → Pieces reel p (take m left ++ text)
+unfoldable pub stepTextOf : Place → List ℕ → List ℕ
+stepTextOf p reel = pick (eqb (p .walk .stage) atHeader) header (onLineTextOf (nextOf reel (p .walk .frame)) p (length reel))

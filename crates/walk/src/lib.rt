@@ -1,5 +1,5 @@
 // The register of a reel in pieces: each call reads on in the reel and prints the next piece into a lent buffer.
-// The walk goes by value; the cells and the screen of the open stretch are lent.
+// The walk goes by value; the cells and the screen of the open stretch are lent, and their types fix their lengths.
 use state::State;
 use wire::Line;
 ghost use mathlib.Core.Path.{_≡_};
@@ -8,7 +8,8 @@ ghost use lib.ListN.{length};
 ghost use Rattle.lines.specs.Line.{Put};
 ghost use Rattle.runs.specs.Frames.{most, nextOf};
 ghost use Rattle.runs.specs.Register.{refusalOf};
-ghost use Rattle.walk.specs.Walk.{place, atEnd, startOf, shownOf, shownTextOf, finishedOf, finishTextOf, Fit, room, Went, Given};
+ghost use Rattle.walk.specs.Walk.{place, atEnd, startOf, Fit, shownOf, shownTextOf, finishedOf, finishTextOf, stepOf, stepTextOf};
+ghost use Rattle.walk.specs.Pieces.{room, isOn, handed, nextPieceOf};
 
 // The stages of a walk.
 pub const HEADER: u8 = 0;
@@ -19,6 +20,9 @@ pub const END: u8 = 2;
 
 // A reel has at most so many frames.
 pub const MOST: usize = 16000;
+
+// The bytes of the buffer that a piece is put into.
+pub const BUFFER: usize = 65536;
 
 // The longest output of one step.
 pub const ROOM: usize = 1216;
@@ -38,8 +42,7 @@ pub struct Piece {
 }
 
 // A walk at the first line: a fresh desk, and an empty screen.
-pub fn start(cells: &mut [u8], held: &mut [u8]) -> Walk
-    requires { ⌜ (length (now cells) ≡ 1920) × (length (now held) ≡ 960) ⌝ }
+pub fn start(cells: &mut [u8; 1920], held: &mut [u8; 960]) -> Walk
     ensures { λ r. ⌜ place r (now (cells .exit)) (now (held .exit)) ≡ startOf ⌝ }
 {
     facts::blank(cells);
@@ -146,7 +149,8 @@ fn finish(w: Walk, size: usize, held: &[u8], out: &mut [u8], n: usize) -> Piece
 // One step behind the first `n` bytes of the buffer: the header, one frame, or the end.
 fn step(w: Walk, reel: &[u8], cells: &mut [u8], held: &mut [u8], out: &mut [u8], n: usize) -> Piece
     requires { ⌜ Fit (place w (now cells) (now held)) × (w .stage < atEnd) × (n + room ≤ length (now out)) ⌝ }
-    ensures { λ r. ⌜ Went (place w (now (cells .entry)) (now (held .entry))) (now (reel .entry)) n (now (out .entry)) (place (r .walk) (now (cells .exit)) (now (held .exit))) (r .n) (now (out .exit)) ⌝ }
+    ensures { λ r. ⌜ (place (r .walk) (now (cells .exit)) (now (held .exit)) ≡ stepOf (place w (now (cells .entry)) (now (held .entry))) (now (reel .entry)))
+        × Put (now (out .entry)) n (stepTextOf (place w (now (cells .entry)) (now (held .entry))) (now (reel .entry))) room (now (out .exit)) (r .n) ⌝ }
 {
     let frame = w.frame;
     if w.stage == HEADER {
@@ -171,20 +175,43 @@ fn step(w: Walk, reel: &[u8], cells: &mut [u8], held: &mut [u8], out: &mut [u8],
     }
 }
 
-// The next piece of the register, as much as there is room for. A walk at `END` has given all.
-pub fn next(w: Walk, reel: &[u8], cells: &mut [u8], held: &mut [u8], out: &mut [u8]) -> Piece
-    requires { ⌜ Fit (place w (now cells) (now held)) ⌝ }
-    ensures { λ r. ⌜ Given (place w (now (cells .entry)) (now (held .entry))) (now (reel .entry)) (now (out .entry)) (place (r .walk) (now (cells .exit)) (now (held .exit))) (r .n) (now (out .exit)) ⌝ }
+// Whether there is room for one step more, and all is not given yet.
+fn is_on(stage: u8, n: usize) -> bool
+    requires { ⌜ n ≤ 65536 ⌝ }
+    ensures { λ r. ⌜ r ≡ isOn stage n ⌝ }
+{
+    (n + ROOM <= BUFFER) & (stage < END)
+}
+
+// Step after step into a buffer, while there is room.
+fn fill(w: Walk, reel: &[u8], cells: &mut [u8], held: &mut [u8], out: &mut [u8]) -> Piece
+    requires { ⌜ Fit (place w (now cells) (now held)) × (length (now out) ≡ 65536) ⌝ }
+    ensures { λ r. ⌜ (handed (place (r .walk) (now (cells .exit)) (now (held .exit))) (r .n) (now (out .exit))
+        ≡ nextPieceOf (place w (now (cells .entry)) (now (held .entry))) (now (reel .entry)) (now (out .entry)))
+        × (r .n ≤ 65536) × (length (now (out .exit)) ≡ 65536) ⌝ }
 {
     let mut at = w;
     let mut n = 0;
-    while n + ROOM <= out.len() {
-        if END <= at.stage {
-            return Piece { walk: at, n };
-        }
+    while is_on(at.stage, n) {
         let p = step(at, reel, cells, held, out, n);
         at = p.walk;
         n = p.n;
     }
     Piece { walk: at, n }
+}
+
+// The next piece of the register, as much as there is room for. A walk at `END` has given all.
+pub fn next_piece(
+    w: Walk,
+    reel: &[u8],
+    cells: &mut [u8; 1920],
+    held: &mut [u8; 960],
+    out: &mut [u8; 65536],
+) -> Piece
+    requires { ⌜ Fit (place w (now cells) (now held)) ⌝ }
+    ensures { λ r. ⌜ (handed (place (r .walk) (now (cells .exit)) (now (held .exit))) (r .n) (now (out .exit))
+        ≡ nextPieceOf (place w (now (cells .entry)) (now (held .entry))) (now (reel .entry)) (now (out .entry)))
+        × (r .n ≤ 65536) × (length (now (out .exit)) ≡ 65536) ⌝ }
+{
+    fill(w, reel, cells, held, out)
 }

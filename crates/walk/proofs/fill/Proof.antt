@@ -1,22 +1,17 @@
--- `next` meets its contract. Assumes nothing.
-use mathlib.Core.List.{_++_}
-use mathlib.Core.Logic.{_⊎_, inl, inr, ⊎-elim}
-use mathlib.Core.Path.{_≡_, refl, ap, _∙_}
+-- `fill` meets its contract. Assumes nothing.
+use mathlib.Core.Path.{_≡_, refl, sym, _∙_}
 use native.Mathlib.Omega.{arith}
-use Prim.Native.Nat.{_≤_, _<_}
 use denote.Ref.{now}
-use lib.ListN.{length, take}
+use lib.ListN.{length}
 use borrow.Author.Needs.{needs}
-use Rattle.walk.specs.Walk.{place, restOf, Fit, stepsOf}
-use Rattle.walk.specs.declared.Walk.{Walk}
-use Rattle.walk.proofs.Laws.{rest-none}
-use Rattle.walk.proofs.next.Statement.{statement}
-use Rattle.walk.proofs.next.Tie as tie
+use Rattle.walk.specs.Walk.{place, stepsOf}
+use Rattle.walk.proofs.LawsOfPieces.{isOn-live, isOn-room, Going, going-start, going-more, going-less, going-end}
+use Rattle.walk.proofs.fill.Statement.{statement}
+use Rattle.walk.proofs.fill.Tie as tie
 
 abbrev Inv-loop : tie.InvT-loop
 Inv-loop reel cells₀ held₀ out₀ at₀ n₀ cells held out at n =
-    (n ≤ length out₀) × (length out ≡ length out₀) × (length cells ≡ length cells₀) × (length held ≡ length held₀) × Fit (place at cells held)
-    × (take n out ++ restOf (place at cells held) reel ≡ restOf (place at₀ cells₀ held₀) reel) × ((stepsOf at < stepsOf at₀) ⊎ ((at ≡ at₀) × (n ≡ 0)))
+    (length cells ≡ length cells₀) × (length held ≡ length held₀) × (length out ≡ length out₀) × Going (place at₀ cells₀ held₀) reel out₀ (place at cells held) n out
 
 abbrev μ-loop : tie.MeasureT-loop
 μ-loop reel cells₀ held₀ out₀ at₀ n₀ cells held out at n = stepsOf at
@@ -24,76 +19,58 @@ abbrev μ-loop : tie.MeasureT-loop
 loop-holds : tie.Need-loop-holds Inv-loop μ-loop
 loop-holds c =
     let start = c .before .before .before .before in
-    (search needs, refl, refl, refl, start .pre, refl, inr (refl, refl))
+    let a = start .args in
+    (refl, refl, refl, going-start (place (a .w) (now (a .cells)) (now (a .held))) (now (a .reel)) (now (a .out)) (start .pre .1) (start .pre .0))
 
-add-loop : tie.Need-add-loop Inv-loop μ-loop
-add-loop c = omega arith
-
-returns : tie.Need-returns Inv-loop μ-loop
-returns c =
-    let l = c .before .before .before in
-    let a = l .before .before .before .before .before .args in
-    record {
-      text = l .loop .inv .5;
-      fit = l .loop .inv .4;
-      small = omega arith;
-      ends = λ h. rest-none _ (now (a .reel)) h;
-      on = λ live some. ⊎-elim (λ less. less) (λ same. absurd (omega (arith, ap (λ (w : Walk). w .stage) (same .0), c .if1 .taken))) (l .loop .inv .6);
-    }
+is-on-requires : tie.Need-is-on-requires Inv-loop μ-loop
+is-on-requires c κs = c .loop .inv .3 .small
 
 step-requires : tie.Need-step-requires Inv-loop μ-loop
 step-requires c κs =
     let t = c .before .before .before in
-    let l = t .before .before .before in
-    (l .loop .inv .4, t .if1 .left, omega arith)
+    let g = t .before .before .loop .inv .3 in
+    let full = g .full in
+    let on = sym (t .before .is-on .ensures) ∙ t .if1 .taken in
+    (g .fit, isOn-live _ _ on, omega (arith, isOn-room _ _ on))
 
 loop-less : tie.Need-loop-less Inv-loop μ-loop
-loop-less c = c .before .before .before .before .before .before .before .step .ensures .on
+loop-less c =
+    let s = c .before .before .before .before .before .before .before in
+    let t = s .before .before .before .before in
+    let l = t .before .before .loop in
+    let reel = now (t .before .before .before .before .before .before .before .args .reel) in
+    going-less reel (l .n) (l .inv .3) (sym (t .before .is-on .ensures) ∙ t .if1 .taken) (s .step .ensures .0)
 
 loop-again : tie.Need-loop-again Inv-loop μ-loop
 loop-again c =
     let s = c .before .before .before .before .before .before .before in
-    let l = s .before .before .before .before .before .before .before in
-    let e = s .step .ensures in
-    let small = e .small in
-    let on = e .on in (
-      omega arith,
+    let t = s .before .before .before .before in
+    let l = t .before .before .loop in
+    let reel = now (t .before .before .before .before .before .before .before .args .reel) in (
       search needs,
       search needs,
       search needs,
-      e .fit,
-      e .text ∙ l .loop .inv .5,
-      inl (⊎-elim (λ less. omega arith) (λ same. omega (arith, ap stepsOf (same .0))) (l .loop .inv .6)),
+      going-more reel (l .n) (l .inv .3) (sym (t .before .is-on .ensures) ∙ t .if1 .taken) (s .step .ensures .0) (s .step .ensures .1),
     )
 
-returns-2 : tie.Need-returns-2 Inv-loop μ-loop
-returns-2 c =
-    let l = c .before in
-    let a = l .before .before .before .before .before .args in
-    record {
-      text = l .loop .inv .5;
-      fit = l .loop .inv .4;
-      small = omega arith;
-      ends = λ h. rest-none _ (now (a .reel)) h;
-      on = λ live some. ⊎-elim (λ less. less) (λ same. absurd (omega (arith, same .1, c .loop-test .left))) (l .loop .inv .6);
-    }
+returns : tie.Need-returns Inv-loop μ-loop
+returns c =
+    let l = c .before .before .loop in
+    let reel = now (c .before .before .before .before .before .before .before .args .reel) in
+    (going-end reel (l .n) (l .inv .3) (sym (c .before .is-on .ensures) ∙ c .if1 .left), l .inv .3 .small, l .inv .3 .full)
 
-pub next-spec : {M : Type 1} → statement M
-next-spec =
+pub fill-spec : {M : Type 1} → statement M
+fill-spec =
     tie.close
     (tie.spec
     Inv-loop
     μ-loop
     loop-holds
-    add-loop
-    (λ c. search needs)
-    (λ c. search needs)
-    (λ c. search needs)
-    returns
+    is-on-requires
     step-requires
     loop-less
     loop-again
     (λ c. search needs)
     (λ c. search needs)
     (λ c. search needs)
-    returns-2)
+    returns)

@@ -1,12 +1,12 @@
 -- `step` meets its contract. Assumes nothing.
-use mathlib.Core.Path.{_≡_, refl, sym, _∙_}
+use mathlib.Core.Path.{_≡_, refl, ap, sym, _∙_}
 use native.Mathlib.Omega.{arith}
 use denote.Ref.{now}
 use borrow.Author.Needs.{needs}
 use Rattle.runs.proofs.Laws.{next-below}
+use Rattle.walk.specs.declared.Walk.{Walk}
 use Rattle.walk.specs.Walk.{place}
-use Rattle.walk.proofs.LawsOfSteps.{went-header, went-shown, went-finish}
-use Rattle.walk.proofs.Laws.{coming-none}
+use Rattle.walk.proofs.LawsOfSteps.{put-as, step-header, step-line}
 use Rattle.walk.proofs.step.Statement.{statement}
 use Rattle.walk.proofs.step.Tie as tie
 
@@ -14,9 +14,9 @@ returns : tie.Need-returns
 returns c =
     let h = c .before .before in
     let t = h .before .before .before in
-    let start = t .before .before .before .before .before .before in
-    let a = start .args in
-    went-header (place (a .w) (now (a .cells)) (now (a .held))) (now (a .reel)) (a .n) (now (a .out)) (start .pre .0) (start .pre .2) (t .if1 .taken) (h .put-header .ensures)
+    let a = t .before .before .before .before .before .before .args in
+    let s = step-header (place (a .w) (now (a .cells)) (now (a .held))) (now (a .reel)) (t .if1 .taken) in
+    (sym (s .0), put-as {a = 18} (sym (s .1)) (omega arith) (record { bytes = h .put-header .ensures; next = refl; room = omega arith }))
 
 show-requires : tie.Need-show-requires
 show-requires c κs =
@@ -35,8 +35,8 @@ returns-2 c =
     let start = t .before .before .before .before .before .before in
     let a = start .args in
     let one : a .w .stage ≡ 1 = omega (arith, start .pre, t .if1 .left) in
-    went-shown (place (a .w) (now (a .cells)) (now (a .held))) (now (a .reel)) (a .n) (now (a .out)) (start .pre .0) (start .pre .2) _ _ one
-    (sym (e .next-line .ensures) ∙ l .line .given .1) (s .show .ensures .0) (s .show .ensures .1)
+    let q = step-line (place (a .w) (now (a .cells)) (now (a .held))) (now (a .reel)) one (sym (e .next-line .ensures) ∙ l .line .given .1) in
+    (rw (q .0) (s .show .ensures .0), put-as (sym (q .1)) (omega arith) (s .show .ensures .1))
 
 returns-3 : tie.Need-returns-3
 returns-3 c =
@@ -46,10 +46,9 @@ returns-3 c =
     let t = e .before in
     let start = t .before .before .before .before .before .before in
     let a = start .args in
-    let p = place (a .w) (now (a .cells)) (now (a .held)) in
     let one : a .w .stage ≡ 1 = omega (arith, start .pre, t .if1 .left) in
-    went-finish p (now (a .reel)) (a .n) (now (a .out)) (start .pre .0) (start .pre .2) one
-    (coming-none p (now (a .reel)) (sym (e .next-line .ensures) ∙ l .enum-told .given .1) refl) (s .finish .ensures .0) (s .finish .ensures .1)
+    let q = step-line (place (a .w) (now (a .cells)) (now (a .held))) (now (a .reel)) one (sym (e .next-line .ensures) ∙ l .enum-told .given .1) in
+    (ap (λ (w : Walk). place w (now (a .cells)) (now (a .held))) (s .finish .ensures .0) ∙ sym (q .0), put-as (sym (q .1)) (omega arith) (s .finish .ensures .1))
 
 returns-4 : tie.Need-returns-4
 returns-4 c =
@@ -59,10 +58,9 @@ returns-4 c =
     let t = e .before in
     let start = t .before .before .before .before .before .before in
     let a = start .args in
-    let p = place (a .w) (now (a .cells)) (now (a .held)) in
     let one : a .w .stage ≡ 1 = omega (arith, start .pre, t .if1 .left) in
-    went-finish p (now (a .reel)) (a .n) (now (a .out)) (start .pre .0) (start .pre .2) one
-    (coming-none p (now (a .reel)) (sym (e .next-line .ensures) ∙ l .enum-told2 .given .1) refl) (s .finish2 .ensures .0) (s .finish2 .ensures .1)
+    let q = step-line (place (a .w) (now (a .cells)) (now (a .held))) (now (a .reel)) one (sym (e .next-line .ensures) ∙ l .enum-told2 .given .1) in
+    (ap (λ (w : Walk). place w (now (a .cells)) (now (a .held))) (s .finish2 .ensures .0) ∙ sym (q .0), put-as (sym (q .1)) (omega arith) (s .finish2 .ensures .1))
 
 pub step-spec : {M : Type 1} → statement M
 step-spec =

@@ -1,0 +1,2 @@
+-- The laws of `register`.
+pub mod Laws
