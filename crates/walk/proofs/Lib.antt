@@ -2,3 +2,4 @@
 pub mod Laws
 pub mod LawsOfSteps
 pub mod LawsOfPieces
+pub mod LawsOfReader
