@@ -1,2 +1,3 @@
 -- The laws of `reel` that others cite.
 pub mod Laws
+pub mod Unique
