@@ -1,2 +1,2 @@
--- The definitions of `loikrasun`: how an answer is packed into one number, and what stands in the buffers beside it.
+-- The definitions of `loikrasun`: how an answer is packed into one number and had back from it, and what stands in the buffers beside it.
 pub mod Packed

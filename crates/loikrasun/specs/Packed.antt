@@ -1,7 +1,7 @@
 -- An exported call gives the paper's number and value as one number, beside the buffers that the call leaves.
 -- Paper 01, "Numbers given back": the columns "No." and "Gives"; "A refusal changes no byte."
 -- Assumes nothing.
-use Prim.Native.Nat.{ℕ, _+_, _*_}
+use Prim.Native.Nat.{ℕ, _+_, _*_, _/_, _%_}
 use mathlib.Core.List.{List}
 use lib.Dec.{eqb}
 use lib.ListN.{length}
@@ -17,6 +17,13 @@ use Rattle.desk.specs.Looks.{viewOf, viewNumberOf}
 -- "The result is one `u32`: the paper's number times 65,536, plus the value."
 unfoldable pub packedOf : Given → ℕ
 packedOf g = g .number * 65536 + g .value
+
+-- what a caller has back from it: the paper's number, and the value
+abbrev pub numberIn : ℕ → ℕ
+numberIn packed = packed / 65536
+
+abbrev pub valueIn : ℕ → ℕ
+valueIn packed = packed % 65536
 
 -- what is given for a frame line read, and for one written
 abbrev pub givenLine : Line → Given
@@ -48,6 +55,10 @@ filled result out = record { result = result; out = out }
 -- a frame line written
 abbrev pub writtenOf : written.Outcome → Filled
 writtenOf o = filled (packedOf (gives (o .number) (o .value))) (o .out)
+
+-- what is given for a view that is copied into a lent buffer: 1 for its length first
+abbrev pub givenView : List ℕ → List ℕ → Given
+givenView d out = pick (eqb (length out) 960) (viewNumberOf d) (gives 1 0)
 
 -- what the view hands back, copied into 960 bytes; a refused view hands back an empty part, so that every byte stays
 unfoldable pub viewedOf : List ℕ → List ℕ → Filled
