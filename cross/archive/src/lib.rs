@@ -1,8 +1,24 @@
-//! The exported functions of `libloikrasun.a`, declared
-//! `extern "C"`, each with a safe wrapper over slices.
+//! The Rust binding of `libloikrasun.a`: its exported functions, each as a safe
+//! function over slices. `tools/archive` builds the archive; for C and C++ the
+//! same functions stand in `include/loikrasun.h`, and what each gives is said
+//! there.
 //!
 //! "The result is one `u32`: the paper's number times 65,536, plus the value.
-//! Slices pass as pointer and length."
+//! Slices pass as pointer and length." [`number`] and [`value`] take a result
+//! apart.
+//!
+//! What a caller of the exported functions owes. Nothing checks these, and
+//! nothing is promised where one is broken:
+//!
+//! - A pointer is good for the length given with it: that many bytes can be
+//!   read there, and written where it is not const. It is never null, not even
+//!   with length 0.
+//! - No two buffers lent to one call overlap.
+//! - While a call runs, nobody else writes to a buffer lent to it, nor reads one
+//!   lent to be written.
+//!
+//! A slice keeps all of them, so the functions here are safe. The archive has no
+//! state of its own and keeps no pointer after a call.
 
 #![warn(missing_docs)]
 
@@ -56,9 +72,32 @@ extern "C" {
     fn loikrasun_line_read(reel: *const u8, reel_length: usize) -> u32;
 }
 
+/// Bytes of a desk's record.
+pub const DESK_LENGTH: usize = 1984;
+/// Bytes of the log.
+pub const LOG_LENGTH: usize = 48_000;
+/// Bytes of the tray.
+pub const TRAY_LENGTH: usize = 31_744;
+/// Bytes that a view is copied into.
+pub const VIEW_LENGTH: usize = 960;
+/// Bytes of a frame line.
+pub const LINE_LENGTH: usize = 5;
+/// The most acts that can stand.
+pub const MOST_ACTS: u32 = 16_000;
+
+/// The paper's number in a result: 0 for done, 1 to 6 for a refusal.
+pub fn number(result: u32) -> u32 {
+    result / 65536
+}
+
+/// The value in a result; 0 on a refusal.
+pub fn value(result: u32) -> u32 {
+    result % 65536
+}
+
 // What makes every call below sound: each pointer comes with the length of the
-// slice it was taken from, mutable slices are borrowed alone for the whole
-// call, and the archive keeps no pointer after it returns.
+// slice it was taken from and is never null, mutable slices are borrowed alone
+// for the whole call, and the archive keeps no pointer after it returns.
 
 /// `loikrasun_open`: "`desk: &mut [u8], log: &mut [u8], tray: &mut [u8]`".
 pub fn open(desk: &mut [u8], log: &mut [u8], tray: &mut [u8]) -> u32 {
