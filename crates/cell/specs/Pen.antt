@@ -38,7 +38,7 @@ isPen byte = leb (byte % 8) 6 && ltb byte 64
 unfoldable pub afterMidRow : Pen → ℕ → Pen
 afterMidRow p b = pick (ltb b 0x2e) (pen ((b - 0x20) / 2) false (isOdd b) false) (pen (p .colour) true (isOdd b) false)
 
--- "Bit 0 of b is underline. Low five bits below 0Eh: colour as above .. no italics. 0Eh, 0Fh: white italics .. From 10h: white .. no italics. Flash off (house)." (H2)
+-- "Bit 0 of b is underline. Low five bits below 0Eh: colour as above .. no italics. 0Eh, 0Fh: white italics .. From 10h: white .. no italics .. Flash off (house)." (H2)
 unfoldable pub ofPreamble : ℕ → Pen
 ofPreamble b =
     pick (ltb (b % 32) 0x0e) (pen (b % 32 / 2) false (isOdd b) false)

@@ -67,7 +67,7 @@ pub implies-of : (a : Bool) {b : Bool} → (a ≡ true → b ≡ true) → impli
 implies-of true f = f refl
 implies-of false f = refl
 
--- "a requires b" as code joins it
+-- a requires b, as code joins it
 pub not-or : (a b : Bool) → (not a || b) ≡ implies a b
 not-or true b = refl
 not-or false b = refl

@@ -7,7 +7,7 @@ abbrev pub pick {ℓ} : {A : Type ℓ} → Bool → A → A → A
 pick true a b = a
 pick false a b = b
 
--- "a requires b"
+-- a requires b: where a passes, b does
 abbrev pub implies : Bool → Bool → Bool
 implies true b = b
 implies false b = true

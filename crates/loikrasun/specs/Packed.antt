@@ -14,7 +14,7 @@ use Rattle.wire.specs.Written as written
 use Rattle.standing.specs.Calls.{Buffers, three, Given, gives, Outcome}
 use Rattle.desk.specs.Looks.{viewOf, viewNumberOf}
 
--- "The result is one `u32`: the paper's number times 65,536, plus the value."
+-- one number for two: the paper's number times 65,536, plus the value
 unfoldable pub packedOf : Given → ℕ
 packedOf g = g .number * 65536 + g .value
 

@@ -21,7 +21,7 @@ use Rattle.page.specs.Page.{writeCellOf, emptyCellOf, emptyFromOf, empty
 abbrev pub Outside : ℕ → ℕ → ℕ → Type 0
 Outside at n k = (k < at) ⊎ (at + n ≤ k)
 
--- "what lies outside stays"
+-- what lies outside stays
 pub over-outside : (d : List ℕ) (at n : ℕ) (s : List ℕ) (k : ℕ) → length s ≡ n → Outside at n k → getD (over d at s) k 0 ≡ getD d k 0
 over-outside d at n s k e h = ⊎-elim (λ low. before-over d at s k low) (λ high. behind-over d at s k (omega arith)) h
 

@@ -84,7 +84,7 @@ pub fn fresh_cursor() -> Cursor
     }
 }
 
-// The first cursor where the test passes, else the second: each field as a byte, so that the compiler keeps a mode in registers.
+// The first cursor where the test passes, else the second: each field as a byte, so that the compiler can keep it in a register.
 fn choose(test: bool, x: Cursor, y: Cursor) -> Cursor
     ensures { λ r. ⌜ r ≡ pick test x y ⌝ }
 {

@@ -149,7 +149,7 @@ fn write_start(desk: &mut [u8], tray: &[u8], s: usize)
 }
 
 // Acts of the log on a desk's record in place. Every act is done here, one just given too: the decoder stands in one loop,
-// where the compiler keeps the state in registers.
+// where the compiler sees the state whole.
 fn replay_in_place(desk: &mut [u8], start: State, log: &[u8], from: usize, count: usize) -> State
     requires { ⌜ (isValid (now desk) ≡ true) × (start ≡ stateOf (now desk)) × (start .acts + count ≤ 16000) × ((from + count) * 3 ≤ length (now log)) × (from + count ≤ 16000) × (areFormed (now log) from count ≡ true) ⌝ }
     ensures { λ r. ⌜ (now (desk .exit) ≡ recordOf (replayOf captionDecoder (readOf (now (desk .entry))) (now (log .entry)) from count))

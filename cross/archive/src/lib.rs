@@ -3,8 +3,8 @@
 //! same functions stand in `include/loikrasun.h`, and what each gives is said
 //! there.
 //!
-//! "The result is one `u32`: the paper's number times 65,536, plus the value.
-//! Slices pass as pointer and length." [`number`] and [`value`] take a result
+//! The result is one `u32`: the paper's number times 65,536, plus the value.
+//! Slices pass as pointer and length. [`number`] and [`value`] take a result
 //! apart.
 //!
 //! What a caller of the exported functions owes. Nothing checks these, and
@@ -99,7 +99,7 @@ pub fn value(result: u32) -> u32 {
 // slice it was taken from and is never null, mutable slices are borrowed alone
 // for the whole call, and the archive keeps no pointer after it returns.
 
-/// `loikrasun_open`: "`desk: &mut [u8], log: &mut [u8], tray: &mut [u8]`".
+/// `loikrasun_open`: `desk`, `log` and `tray`.
 pub fn open(desk: &mut [u8], log: &mut [u8], tray: &mut [u8]) -> u32 {
     // SAFETY: pointers with the lengths of live slices, see above.
     unsafe {
@@ -114,7 +114,7 @@ pub fn open(desk: &mut [u8], log: &mut [u8], tray: &mut [u8]) -> u32 {
     }
 }
 
-/// `loikrasun_take`: "the three, `first: u8, second: u8`".
+/// `loikrasun_take`: the three, and the two raw bytes of a pair.
 pub fn take(desk: &mut [u8], log: &mut [u8], tray: &mut [u8], first: u8, second: u8) -> u32 {
     // SAFETY: pointers with the lengths of live slices, see above.
     unsafe {
@@ -131,7 +131,7 @@ pub fn take(desk: &mut [u8], log: &mut [u8], tray: &mut [u8], first: u8, second:
     }
 }
 
-/// `loikrasun_select`: "the three, `channel: u8`".
+/// `loikrasun_select`: the three, and channel 1 or 2.
 pub fn select(desk: &mut [u8], log: &mut [u8], tray: &mut [u8], channel: u8) -> u32 {
     // SAFETY: pointers with the lengths of live slices, see above.
     unsafe {
@@ -147,7 +147,7 @@ pub fn select(desk: &mut [u8], log: &mut [u8], tray: &mut [u8], channel: u8) -> 
     }
 }
 
-/// `loikrasun_back`: "the three, `k: u32`".
+/// `loikrasun_back`: the three, and how many acts to step back.
 pub fn back(desk: &mut [u8], log: &mut [u8], tray: &mut [u8], k: u32) -> u32 {
     // SAFETY: pointers with the lengths of live slices, see above.
     unsafe {
@@ -163,27 +163,27 @@ pub fn back(desk: &mut [u8], log: &mut [u8], tray: &mut [u8], k: u32) -> u32 {
     }
 }
 
-/// `loikrasun_row`: "`desk: &[u8], row: u8`".
+/// `loikrasun_row`: `desk`, and row 1 to 15.
 pub fn row(desk: &[u8], row: u8) -> u32 {
     // SAFETY: a pointer with the length of a live slice, see above.
     unsafe { loikrasun_row(desk.as_ptr(), desk.len(), row) }
 }
 
-/// `loikrasun_view`: "`desk: &[u8], out: &mut [u8]` (960 bytes, else 1): what
-/// the view hands back, copied".
+/// `loikrasun_view`: `desk`, and 960 bytes for a copy of what the view hands
+/// back.
 pub fn view(desk: &[u8], out: &mut [u8]) -> u32 {
     // SAFETY: pointers with the lengths of live slices, see above.
     unsafe { loikrasun_view(desk.as_ptr(), desk.len(), out.as_mut_ptr(), out.len()) }
 }
 
-/// `loikrasun_line_write`: "`out: &mut [u8], first: u8, second: u8`".
+/// `loikrasun_line_write`: 5 bytes, and the two bytes of a pair.
 pub fn line_write(out: &mut [u8], first: u8, second: u8) -> u32 {
     // SAFETY: a pointer with the length of a live slice, see above.
     unsafe { loikrasun_line_write(out.as_mut_ptr(), out.len(), first, second) }
 }
 
-/// `loikrasun_line_read`: "`reel: &[u8]`: the pair of its first line as
-/// `first * 256 + second`; an empty reel gives 0; else 5".
+/// `loikrasun_line_read`: a reel: the pair of its first line as
+/// `first * 256 + second`; an empty reel gives 0; else 5.
 pub fn line_read(reel: &[u8]) -> u32 {
     // SAFETY: a pointer with the length of a live slice, see above.
     unsafe { loikrasun_line_read(reel.as_ptr(), reel.len()) }

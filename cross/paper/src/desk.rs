@@ -205,8 +205,8 @@ pub fn view(desk: &[u8]) -> Result<&[u8], Refusal> {
     Ok(&desk[record::DISPLAYED])
 }
 
-/// DESIGN 7, `loikrasun_view`: "(960 bytes, else 1): what the view hands back,
-/// copied". Gives 0.
+/// What `loikrasun_view` does (include/loikrasun.h): what the view hands back is
+/// copied into 960 bytes, else 1. Gives 0.
 pub fn view_into(desk: &[u8], out: &mut [u8]) -> Answer {
     if out.len() != VIEW_BYTES {
         return Err(Refusal::Length);

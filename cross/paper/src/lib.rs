@@ -1,9 +1,9 @@
-//! The line 21 caption desk of document 01, written from the paper alone.
+//! The line 21 caption desk of the archive's paper, written from the paper alone.
 //!
 //! This crate shares no line with the proved implementation. It is plain
 //! Rust without a proof: a second reading of the same paper, to be run beside
-//! the first one and compared with it byte for byte. Every doc comment quotes
-//! the line of the paper that its function implements.
+//! the first one and compared with it byte for byte. Doc comments quote the line
+//! of the paper that a function implements; `docs/PROMISES.md` has them all.
 //!
 //! - [`bytes`]: parity and the low seven bits
 //! - [`codes`]: what a control pair means

@@ -76,8 +76,8 @@ pub fn write(out: &mut [u8], first: u8, second: u8) -> Answer {
     Ok(0)
 }
 
-/// DESIGN 7, `loikrasun_line_read`: "the pair of its first line as
-/// `first * 256 + second`; an empty reel gives 0; else 5".
+/// What `loikrasun_line_read` gives (include/loikrasun.h): the pair of the first
+/// line as `first * 256 + second`; an empty reel gives 0; else 5.
 pub fn read(reel: &[u8]) -> Answer {
     let pair = Reader::new(reel).next_pair()?;
     Ok(pair.map_or(0, |(first, second)| u16::from_be_bytes([first, second])))

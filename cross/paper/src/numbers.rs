@@ -28,8 +28,9 @@ impl Refusal {
 /// "0 | done | act count, or what was asked"; a refusal gives 0.
 pub type Answer = Result<u16, Refusal>;
 
-/// DESIGN 7: "The result is one `u32`: the paper's number times 65,536, plus
-/// the value." A refusal's value is the table's 0.
+/// An answer as the exported functions give it (include/loikrasun.h): the
+/// paper's number times 65,536, plus the value. A refusal's value is the
+/// table's 0.
 pub fn packed(answer: Answer) -> u32 {
     match answer {
         Ok(value) => u32::from(value),
