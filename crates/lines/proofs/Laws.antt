@@ -2,7 +2,7 @@
 use mathlib.Core.Path.{_≡_, refl, ap, sym, _∙_}
 use mathlib.Core.Bool.{true}
 use mathlib.Core.List.{List, [], _∷_, _++_}
-use Prim.Native.Nat.{ℕ, zero, suc, _+_, _*_, _<_, _≤_}
+use Prim.Native.Nat.{ℕ, zero, suc, _+_, _*_, _≤_}
 use native.Mathlib.Nat.{suc-add, zero-add}
 use native.Mathlib.Omega.{arith}
 use lib.ListN.{length, getD, length-append}
@@ -12,8 +12,8 @@ use Rattle.facts.proofs.Over.{over-nil}
 use Rattle.cell.specs.Place.{rowNumber, rowAt}
 use Rattle.page.specs.Page.{displayed, isEmptyOf}
 use Rattle.page.proofs.Laws.{isEmptyOf-at}
-use Rattle.lines.specs.Span.{codeAt, endMoreOf, endOf}
 use Rattle.lines.specs.Line.{codesOf, frameOf, rowOf, headOf, Run, rowLineOf, topLinesOf, linesOf, refusedOf, Put}
+use Rattle.lines.proofs.Printed.{endOf-none}
 
 -- Texts written one behind the other are one text.
 
@@ -60,11 +60,6 @@ unfolding refusedOf frameOf
 length-refusedOf frame number = refl
 
 -- A screen that is all empty prints nothing.
-
-endOf-none : (s : List ℕ) (at n : ℕ) → ((k : ℕ) → k < n → codeAt s at k ≡ 0) → endOf s at n ≡ 0
-unfolding endOf endMoreOf
-endOf-none s at zero h = refl
-endOf-none s at (suc n) h = simp (eq-eqb _ _ (h n (omega arith))) (endOf-none s at n (λ k l. h k (omega arith)))
 
 module _ (r : Run) (empty : isEmptyOf (r .screen) displayed ≡ true) where
   row-none : (row : ℕ) → 1 ≤ row → row ≤ 15 → rowLineOf r row ≡ []

@@ -1,8 +1,9 @@
--- What is printed of a row starts at its first non-empty cell and ends with its last: the two ends are what their names say. Assumes nothing.
+-- What is printed of a row starts at its first non-empty cell and ends with its last: the two ends are what their names say.
+-- No other numbers are. Assumes nothing.
 use mathlib.Core.Path.{_≡_, ap, sym, _∙_}
 use mathlib.Core.Bool.{_&&_}
 use mathlib.Core.List.{List}
-use Prim.Native.Nat.{ℕ, zero, suc, _+_, _≤_, _<_}
+use Prim.Native.Nat.{ℕ, zero, suc, _+_, _-_, _≤_, _<_}
 use native.Mathlib.Omega.{arith}
 use lib.Dec.{eqb}
 use borrow.Author.Tests.{eqb-true, eqb-false, eq-eqb}
@@ -69,3 +70,29 @@ endOf-last s at (suc n) =
       empty = λ k low h. absurd (omega arith);
       filled = λ k e z. let here : n ≡ k = omega arith in eqb-false code 0 t (ap (codeAt s at) here ∙ z);
     })
+
+-- No other number is such an end.
+
+-- two numbers of which neither is below the other
+neither-below : (a b : ℕ) → (a < b → ⊥) → (b < a → ⊥) → a ≡ b
+neither-below a b f g = below-cases a b (λ l. absurd (f l)) (λ l. below-cases b a (λ h. absurd (g h)) (λ h. omega arith))
+
+pub leadOf-only : (s : List ℕ) (at n lead : ℕ) → First s at n lead → lead ≡ leadOf s at n
+leadOf-only s at n lead f =
+    let g = leadOf-first s at n in
+    let high = f .high in
+    let most = g .high in
+    neither-below lead (leadOf s at n) (λ l. f .filled (omega arith) (g .empty lead l)) (λ l. g .filled (omega arith) (f .empty (leadOf s at n) l))
+
+pub endOf-only : (s : List ℕ) (at n end : ℕ) → Last s at n end → end ≡ endOf s at n
+endOf-only s at n end f =
+    let g = endOf-last s at n in
+    let high = f .high in
+    let most = g .high in
+    neither-below end (endOf s at n)
+    (λ l. g .filled (endOf s at n - 1) (omega arith) (f .empty (endOf s at n - 1) (omega arith) (omega arith)))
+    (λ l. f .filled (end - 1) (omega arith) (g .empty (end - 1) (omega arith) (omega arith)))
+
+-- with no non-empty cell there is nothing before the end
+pub endOf-none : (s : List ℕ) (at n : ℕ) → ((k : ℕ) → k < n → codeAt s at k ≡ 0) → endOf s at n ≡ 0
+endOf-none s at n h = sym (endOf-only s at n 0 (record { high = omega arith; empty = λ k low. h k; filled = λ k e. absurd (omega arith) }))
