@@ -23,7 +23,7 @@ pub record Last (s : List ℕ) (at n end : ℕ) : Type 0 where
   pub filled : (k : ℕ) → end ≡ k + 1 → codeAt s at k ≡ 0 → ⊥
 
 -- the cells below n + 1 are those below n, and n
-below-more : (P : ℕ → Type 0) (k n : ℕ) → k < n + 1 → (k < n → P k) → P n → P k
+pub below-more : (P : ℕ → Type 0) (k n : ℕ) → k < n + 1 → (k < n → P k) → P n → P k
 below-more P k n h f p = below-cases k n f (λ g. let e : n ≡ k = omega arith in rw e at p)
 
 pub leadOf-first : (s : List ℕ) (at n : ℕ) → First s at n (leadOf s at n)

@@ -19,7 +19,7 @@ leadMoreOf lead k code = pick (eqb code 0 && eqb lead k) (k + 1) lead
 unfoldable pub endMoreOf : ℕ → ℕ → ℕ → ℕ
 endMoreOf end k code = pick (eqb code 0) end (k + 1)
 
--- of the first n cells, how many stand before the first non-empty one (the last one outermost, as a loop comes to it)
+-- of the first n cells, how many stand before the first non-empty one
 unfoldable pub leadOf : List ℕ → ℕ → ℕ → ℕ
 leadOf s at zero = 0
 leadOf s at (suc n) = leadMoreOf (leadOf s at n) n (codeAt s at n)

@@ -5,14 +5,8 @@ ghost use mathlib.Core.List.{[], _∷_};
 ghost use Prim.Native.Nat.{_+_, _-_, _≤_};
 ghost use lib.ListN.{length};
 ghost use Rattle.facts.specs.Over.{over};
-ghost use Rattle.lines.specs.Span.{leadMoreOf, endMoreOf, leadOf, endOf};
+ghost use Rattle.lines.specs.Span.{leadOf, endOf};
 ghost use Rattle.lines.specs.Line.{header, digitOf, frameOf, rowOf, headOf, codesOf, run, rowLineOf, linesOf, refusedOf, Put};
-
-// How many cells of a row stand before its first non-empty one, and how many up to its last.
-pub struct Ends {
-    pub lead: usize,
-    pub end: usize,
-}
 
 // The last decimal digit of a number.
 fn digit(value: usize) -> u8
@@ -65,41 +59,39 @@ fn put_head(out: &mut [u8], n: usize, from: usize, to: usize, row: usize)
     put_row(out, n + 12, row);
 }
 
-fn lead_more(lead: usize, k: usize, code: u8) -> usize
-    requires { ⌜ (lead ≤ k) × (k ≤ 31) ⌝ }
-    ensures { λ r. ⌜ (r ≡ leadMoreOf lead k code) × (r ≤ k + 1) ⌝ }
-{
-    if (code == 0) & (lead == k) {
-        return k + 1;
-    }
-    lead
-}
-
-fn end_more(end: usize, k: usize, code: u8) -> usize
-    requires { ⌜ (end ≤ k) × (k ≤ 31) ⌝ }
-    ensures { λ r. ⌜ (r ≡ endMoreOf end k code) × (r ≤ k + 1) ⌝ }
-{
-    if code == 0 {
-        return end;
-    }
-    k + 1
-}
-
-// Which cells of the row that starts at `at` are printed.
-fn span(screen: &[u8], at: usize) -> Ends
+// How many cells of the row that starts at `at` stand before its first non-empty one.
+fn lead(screen: &[u8], at: usize) -> usize
     requires { ⌜ at + 64 ≤ length (now screen) ⌝ }
-    ensures { λ r. ⌜ (r .lead ≡ leadOf (now (screen .entry)) at 32) × (r .end ≡ endOf (now (screen .entry)) at 32) × (r .lead ≤ 32) × (r .end ≤ 32) ⌝ }
+    ensures { λ r. ⌜ (r ≡ leadOf (now (screen .entry)) at 32) × (r ≤ 32) ⌝ }
 {
-    let mut lead: usize = 0;
-    let mut end: usize = 0;
     let mut k: usize = 0;
     while k < 32 {
-        let code = screen[at + k * 2];
-        lead = lead_more(lead, k, code);
-        end = end_more(end, k, code);
+        if screen[at + k * 2] != 0 {
+            return k;
+        }
         k += 1;
     }
-    Ends { lead, end }
+    k
+}
+
+// How many stand up to its last non-empty one; 0 where there is none. Most rows of a screen are empty, and such a row is passed over as a
+// whole; in the others the last cell is come to from the back.
+fn end(screen: &[u8], at: usize) -> usize
+    requires { ⌜ at + 64 ≤ length (now screen) ⌝ }
+    ensures { λ r. ⌜ (r ≡ endOf (now (screen .entry)) at 32) × (r ≤ 32) ⌝ }
+{
+    if facts::is_blank(screen, at, 64) {
+        return 0;
+    }
+    let mut k: usize = 32;
+    while 0 < k {
+        let last = k - 1;
+        if screen[at + last * 2] != 0 {
+            return k;
+        }
+        k = last;
+    }
+    k
 }
 
 // The codes of the cells from `from` on up to `end`.
@@ -125,12 +117,13 @@ fn put_row_line(out: &mut [u8], n: usize, from: usize, to: usize, screen: &[u8],
     ensures { λ r. ⌜ Put (now (out .entry)) n (rowLineOf (run from to (now (screen .entry))) row) 80 (now (out .exit)) r ⌝ }
 {
     let at = cell::row_address(page::DISPLAYED, Row(row));
-    let s = span(screen, at);
-    if s.end == 0 {
+    let end = end(screen, at);
+    if end == 0 {
         return n;
     }
+    let lead = lead(screen, at);
     put_head(out, n, from, to, row as usize);
-    let m = put_codes(out, n + 15, screen, at, s.lead, s.end);
+    let m = put_codes(out, n + 15, screen, at, lead, end);
     put(out, m, &[0x0a]);
     m + 1
 }

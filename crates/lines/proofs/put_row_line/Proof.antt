@@ -11,23 +11,25 @@ use Rattle.lines.proofs.put_row_line.Tie as tie
 
 returns : tie.Need-returns
 returns c =
-    let s = c .before .before in
-    let a = s .before .before .before .before .args in
+    let e = c .before in
+    let at = e .before .row-address .ensures .0 in
+    let a = e .before .before .before .before .args in
     row-nothing (now (a .out)) (a .n) (run (a .from) (a .to) (now (a .screen))) (a .row)
-    (ap (λ (at : ℕ). endOf (now (a .screen)) at 32) (sym (s .before .row-address .ensures .0)) ∙ sym (s .span .ensures .1) ∙ c .if1 .taken)
+    (ap (λ (k : ℕ). endOf (now (a .screen)) k 32) (sym at) ∙ sym (e .end .ensures .0) ∙ c .if1 .taken)
 
 returns-2 : tie.Need-returns-2
 returns-2 c =
     let p = c .before .before in
     let codes = p .before .before .before .before .before in
     let head = codes .before .before .before .before in
-    let t = head .before .before in
-    let s = t .before .before in
-    let at = s .before .row-address .ensures .0 in
-    let a = s .before .before .before .before .args in
+    let l = head .before .before in
+    let t = l .before in
+    let e = t .before in
+    let at = e .before .row-address .ensures .0 in
+    let a = e .before .before .before .before .args in
     let screen = now (a .screen) in
-    row-line (now (a .out)) (a .n) (run (a .from) (a .to) screen) (a .row) (s .span .result .lead) (s .span .result .end) (codes .put-codes .result)
-    (s .span .ensures .0 ∙ ap (λ (k : ℕ). leadOf screen k 32) at) (s .span .ensures .1 ∙ ap (λ (k : ℕ). endOf screen k 32) at) (t .if1 .left) (head .put-head .ensures)
+    row-line (now (a .out)) (a .n) (run (a .from) (a .to) screen) (a .row) (l .lead .result) (e .end .result) (codes .put-codes .result)
+    (l .lead .ensures .0 ∙ ap (λ (k : ℕ). leadOf screen k 32) at) (e .end .ensures .0 ∙ ap (λ (k : ℕ). endOf screen k 32) at) (t .if1 .left) (head .put-head .ensures)
     (rw at at (codes .put-codes .ensures)) (p .put .ensures)
 
 pub put-row-line-spec : {M : Type 1} → statement M
@@ -37,6 +39,7 @@ put-row-line-spec =
     (λ c κs. search needs)
     (λ c κs. search needs)
     returns
+    (λ c κs. search needs)
     (λ c κs. search needs)
     (λ c. search needs)
     (λ c κs. search needs)
