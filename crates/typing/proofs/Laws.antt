@@ -91,7 +91,7 @@ length-putOf d memory c code =
     pick-cases (λ (l : List ℕ). length l ≡ length d) (eqb code 0) (λ t. refl) (λ t. length-writeCellOf d memory (c .row) (c .column) code (c .pen))
 
 -- with a style set, a code is written at the cursor that was set last
-writeAnyOf-at : (m : Mode) (d : List ℕ) (c : Cursor) (code : ℕ) → 1 ≤ m .style → m .style ≤ 3
+pub writeAnyOf-at : (m : Mode) (d : List ℕ) (c : Cursor) (code : ℕ) → 1 ≤ m .style → m .style ≤ 3
     → writeAnyOf (captions (withCursor m c) d) code ≡ captions (withCursor m (passedOf c code)) (putOf d (memoryOf m) c code)
 unfolding writeAnyOf passedOf putOf writeOf
 writeAnyOf-at m d c code low high = go (eqb code 0)

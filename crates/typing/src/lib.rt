@@ -26,7 +26,7 @@ pub fn write(mode: Mode, cells: &mut [u8], code: u8) -> Mode
 }
 
 // A code in a cursor's cell, if there is any: the cursor behind it. Code 0 is none.
-fn put(cells: &mut [u8], memory: usize, at: Cursor, code: u8) -> Cursor
+pub fn put(cells: &mut [u8], memory: usize, at: Cursor, code: u8) -> Cursor
     requires { ⌜ Holds memory (now cells) × Placed at ⌝ }
     ensures { λ r. ⌜ (r ≡ passedOf at code) × (now (cells .exit) ≡ putOf (now (cells .entry)) memory at code) ⌝ }
 {
