@@ -13,6 +13,7 @@ use Rattle.cell.specs.Code.{isCode}
 use Rattle.codes.specs.Codes.{codeOf, channelOf}
 use Rattle.codes.specs.Assigned.{isUnassigned, isExpected}
 use Rattle.codes.proofs.Laws.{codeOf-proper, channelOf-high, isAssigned-codeOf, none-isExpected, isExpected-of}
+use Rattle.state.specs.declared.State.{State}
 use Rattle.state.specs.State.{Captions, captions, Desk, desk}
 use Rattle.state.specs.Style.{isReady}
 use Rattle.state.specs.Ranges.{Sound}
@@ -24,6 +25,7 @@ use Rattle.acts.proofs.Laws.{actOf-sound}
 use Rattle.decode.specs.Pair.{captionsOf, withCaptions, told, clearedOf, typeOf, asTextOf, textCodeOf, typeAnyOf, isDamagedRepeat, ruleOneOf, ruleTwoOf, isPassedOver, controlOf, ruleThreeOf, ruleFourOf, pairOf}
 use Rattle.decode.specs.Step.{takenOf, selectOf, freshDesk}
 use Rattle.decode.specs.Sound.{SoundDesk}
+use Rattle.decode.specs.Typed.{isOpen}
 
 -- "20h–7Fh" are cell codes
 text-isCode : (code : ℕ) → 0x20 ≤ code → code < 128 → isCode code ≡ true
@@ -31,12 +33,9 @@ unfolding isCode
 text-isCode code low high =
     or-left _ (or-left _ (or-right (eqb code 0) (and-both (le-leb 0x20 code low) (le-leb code 0x7f (omega arith)))))
 
--- "the stream's channel is the selected one, a style is set, and Text is off"
-abbrev pub isOpen : Desk → Bool
-isOpen d = eqb (d .state .stream) (d .state .selected) && isReady (d .state .mode)
-
-pub isOpen-live : (d : Desk) → isOpen d ≡ true → 1 ≤ d .state .mode .style
-isOpen-live d t = isReady-live (d .state .mode) (and-right (eqb (d .state .stream) (d .state .selected)) (isReady (d .state .mode)) t)
+-- the gate is open only with a style set
+pub isOpen-live : (s : State) → isOpen s ≡ true → 1 ≤ s .mode .style
+isOpen-live s t = isReady-live (s .mode) (and-right (eqb (s .stream) (s .selected)) (isReady (s .mode)) t)
 
 -- A byte as text is its code typed.
 
@@ -68,7 +67,7 @@ code-then-text d code y low = typeAnyOf-text (typeAnyOf d code) y ∙ ap (λ (e 
 
 -- The gate for two codes is asked once: writing leaves it as it was.
 
-typeAnyOf-open : (d : Desk) (code : ℕ) → isOpen d ≡ true → typeAnyOf d code ≡ withCaptions d (writeAnyOf (captionsOf d) code)
+typeAnyOf-open : (d : Desk) (code : ℕ) → isOpen (d .state) ≡ true → typeAnyOf d code ≡ withCaptions d (writeAnyOf (captionsOf d) code)
 unfolding typeAnyOf typeOf writeAnyOf
 typeAnyOf-open d code t = go (eqb code 0)
   where
@@ -76,17 +75,17 @@ typeAnyOf-open d code t = go (eqb code 0)
     go true = refl
     go false = rw t
 
-typeAnyOf-shut : (d : Desk) (code : ℕ) → isOpen d ≡ false → typeAnyOf d code ≡ d
+typeAnyOf-shut : (d : Desk) (code : ℕ) → isOpen (d .state) ≡ false → typeAnyOf d code ≡ d
 unfolding typeAnyOf typeOf
 typeAnyOf-shut d code t = pick-cases (λ (e : Desk). e ≡ d) (eqb code 0) (λ n. refl) (λ n. rw t)
 
-pub open-both : (d : Desk) (first second : ℕ) → isOpen d ≡ true → withCaptions d (writeAnyOf (writeAnyOf (captionsOf d) first) second) ≡ typeAnyOf (typeAnyOf d first) second
+pub open-both : (d : Desk) (first second : ℕ) → isOpen (d .state) ≡ true → withCaptions d (writeAnyOf (writeAnyOf (captionsOf d) first) second) ≡ typeAnyOf (typeAnyOf d first) second
 open-both d first second t =
     let e = withCaptions d (writeAnyOf (captionsOf d) first) in
     let still = ap (λ (r : Bool). eqb (d .state .stream) (d .state .selected) && r) (isReady-writeAnyOf (captionsOf d) first) in
     sym (ap (λ (x : Desk). typeAnyOf x second) (typeAnyOf-open d first t) ∙ typeAnyOf-open e second (still ∙ t))
 
-pub shut-both : (d : Desk) (first second : ℕ) → isOpen d ≡ false → d ≡ typeAnyOf (typeAnyOf d first) second
+pub shut-both : (d : Desk) (first second : ℕ) → isOpen (d .state) ≡ false → d ≡ typeAnyOf (typeAnyOf d first) second
 shut-both d first second t = sym (ap (λ (x : Desk). typeAnyOf x second) (typeAnyOf-shut d first t) ∙ typeAnyOf-shut d second t)
 
 -- what is known of a control pair that is not passed over
@@ -144,7 +143,7 @@ unfolding clearedOf typeOf controlOf
 pairOf-acts d x y =
     let n = d .state .acts in
     pairOf-keeps (Counts n) (λ e h. h)
-    (λ e code t low h. pick-cases (Counts n) (isOpen e) (λ u. h) (λ u. h))
+    (λ e code t low h. pick-cases (Counts n) (isOpen (e .state)) (λ u. h) (λ u. h))
     (λ e a b al au bl bu t h. pick-cases (Counts n) (eqb (channelOf a) (e .state .selected)) (λ u. h) (λ u. h)) d x y refl
 
 -- The rules keep a sound desk sound.
@@ -177,8 +176,8 @@ clearedOf-sound d h = told-sound d h (d .state .stream) 0 0 (h .stream) none-isE
 typeOf-sound : (d : Desk) (code : ℕ) → isCode code ≡ true → 1 ≤ code → SoundDesk d → SoundDesk (typeOf d code)
 unfolding typeOf
 typeOf-sound d code e low h =
-    pick-cases SoundDesk (isOpen d)
-    (λ t. withCaptions-sound d h (writeOf (captionsOf d) code) (writeOf-sound (captionsOf d) (h .captions) code e low (isOpen-live d t))) (λ t. h)
+    pick-cases SoundDesk (isOpen (d .state))
+    (λ t. withCaptions-sound d h (writeOf (captionsOf d) code) (writeOf-sound (captionsOf d) (h .captions) code e low (isOpen-live (d .state) t))) (λ t. h)
 
 controlOf-sound : (d : Desk) (a b : ℕ) → 0x10 ≤ a → a ≤ 0x1f → 0x20 ≤ b → b ≤ 0x7f → isUnassigned (codeOf a b) ≡ false → SoundDesk d → SoundDesk (controlOf d a b)
 unfolding controlOf

@@ -10,6 +10,7 @@ ghost use Rattle.state.specs.State.{captions, desk};
 ghost use Rattle.state.specs.Ranges.{Sound};
 ghost use Rattle.decode.specs.Pair.{told, typeAnyOf, textCodeOf, isDamagedRepeat, controlOf, ruleThreeOf, pairOf};
 ghost use Rattle.decode.specs.Step.{takenOf, selectOf};
+ghost use Rattle.decode.specs.Typed.{isOpen};
 
 // No pair is expected any more.
 fn cleared(mut state: State) -> State
@@ -29,13 +30,21 @@ fn text_code(y: u8) -> u8
     facts::choose(wire::is_good(y), own, 0x7f)
 }
 
-// The one gate for writing: two codes one after the other, code 0 none.
+// The one gate for writing: the stream's channel is the selected one, a style is set, and Text is off.
+fn is_open(state: State) -> bool
+    ensures { λ r. ⌜ r ≡ isOpen state ⌝ }
+{
+    let mode = state.mode;
+    (state.stream == state.selected) & mode.is_ready()
+}
+
+// Two codes one after the other, code 0 none. The gate is asked once for both.
 fn type_both(mut state: State, cells: &mut [u8], first: u8, second: u8) -> State
     requires { ⌜ Sound (captions (state .mode) (now cells)) ⌝ }
     ensures { λ r. ⌜ desk r (now (cells .exit)) ≡ typeAnyOf (typeAnyOf (desk state (now (cells .entry))) first) second ⌝ }
 {
-    let mode = state.mode;
-    if (state.stream == state.selected) & mode.is_ready() {
+    if is_open(state) {
+        let mode = state.mode;
         let next = typing::write_two(mode, cells, first, second);
         state.mode = next;
         return state;

@@ -1,7 +1,5 @@
 -- `type_both` meets its contract. Assumes nothing.
-use mathlib.Core.Bool.{Bool, _&&_}
 use mathlib.Core.Path.{ap, sym, _∙_}
-use lib.Dec.{eqb}
 use denote.Ref.{now}
 use borrow.Author.Needs.{needs}
 use Rattle.state.specs.State.{Captions, desk}
@@ -12,25 +10,22 @@ use Rattle.decode.proofs.type_both.Tie as tie
 
 write-two-requires : tie.Need-write-two-requires
 write-two-requires c κs =
-    let s = c .before .before .before .before .before .before in
-    let t = s .args .state in
-    let gate = sym (ap (λ (r : Bool). eqb (t .stream) (t .selected) && r) (c .before .before .is-ready .ensures)) ∙ c .before .if1 .taken in
-    (s .pre, isOpen-live (desk t (now (s .args .cells))) gate)
+    let g = c .before .before in
+    let s = g .before .before .before in
+    (s .pre, isOpen-live (s .args .state) (sym (g .before .is-open .ensures) ∙ g .if1 .taken))
 
 returns : tie.Need-returns
 returns c =
-    let a = c .before .before .before .before .before .before .before .before .before .args in
-    let t = a .state in
-    let gate = sym (ap (λ (r : Bool). eqb (t .stream) (t .selected) && r) (c .before .before .before .before .before .is-ready .ensures)) ∙ c .before .before .before .before .if1 .taken in
-    ap (λ (d : Captions). desk (withMode t (d .mode)) (d .cells)) (c .before .before .write-two .ensures)
-    ∙ open-both (desk t (now (a .cells))) (a .first) (a .second) gate
+    let w = c .before .before in
+    let g = w .before .before .before in
+    let a = g .before .before .before .args in
+    ap (λ (d : Captions). desk (withMode (a .state) (d .mode)) (d .cells)) (w .write-two .ensures)
+    ∙ open-both (desk (a .state) (now (a .cells))) (a .first) (a .second) (sym (g .before .is-open .ensures) ∙ g .if1 .taken)
 
 returns-2 : tie.Need-returns-2
 returns-2 c =
-    let a = c .before .before .before .before .before .args in
-    let t = a .state in
-    shut-both (desk t (now (a .cells))) (a .first) (a .second)
-    (sym (ap (λ (r : Bool). eqb (t .stream) (t .selected) && r) (c .before .is-ready .ensures)) ∙ c .if1 .left)
+    let a = c .before .before .before .args in
+    shut-both (desk (a .state) (now (a .cells))) (a .first) (a .second) (sym (c .before .is-open .ensures) ∙ c .if1 .left)
 
 pub type-both-spec : {M : Type 1} → statement M
 type-both-spec =
