@@ -1,4 +1,4 @@
--- The definitions of `decode`, in reading order: the pair rules, the two acts of a desk, what every act keeps, and when what is typed is written.
+-- The definitions of `decode`, in reading order: the pair rules, the two acts of a desk, what every act keeps, and pairs of text in a row.
 pub mod Pair
 pub mod Step
 pub mod Sound
