@@ -53,15 +53,16 @@ pub fn keep(tray: &mut [u8], state: State, cells: &[u8])
     }
 }
 
-// One act: a pair taken, or a channel selected.
+// One act: a pair taken, or a channel selected. With a way out in place of the second arm the compiler keeps more of the state in memory.
 pub fn step(state: State, cells: &mut [u8], kind: u8, first: u8, second: u8) -> State
     requires { ⌜ SoundDesk (desk state (now cells)) × (state .acts < 16000) ⌝ }
     ensures { λ r. ⌜ desk r (now (cells .exit)) ≡ stepOf (desk state (now (cells .entry))) (actOf kind first second) ⌝ }
 {
     if kind == 1 {
-        return decode::take(state, cells, first, second);
+        decode::take(state, cells, first, second)
+    } else {
+        decode::select(state, cells, first)
     }
-    decode::select(state, cells, first)
 }
 
 fn is_formed(kind: u8, first: u8, second: u8) -> bool
