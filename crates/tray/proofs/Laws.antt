@@ -1,6 +1,6 @@
 -- The caption decoder owes the theory nothing: its laws. Assumes nothing.
-use mathlib.Core.Path.{_≡_, refl, ap, _∙_}
-use mathlib.Core.Bool.{Bool, true, _&&_, _||_}
+use mathlib.Core.Path.{_≡_, refl, ap, sym, _∙_}
+use mathlib.Core.Bool.{Bool, true, false, _&&_}
 use mathlib.Core.List.{List, _++_}
 use Prim.Native.Nat.{ℕ, _+_, _<_, _≤_}
 use native.Mathlib.Omega.{arith}
@@ -10,7 +10,7 @@ use lib.Seq.{drop-at}
 use borrow.Author.Tests.{leb-true, eq-eqb, ne-eqb}
 use borrow.Rule.Slice.PartMut.{putMid}
 use Rattle.facts.specs.Over.{over}
-use Rattle.facts.proofs.Choice.{and-left, and-right}
+use Rattle.facts.proofs.Choice.{and-left, and-right, same-test}
 use Rattle.state.specs.declared.State.{State}
 use Rattle.state.specs.State.{Desk, desk, freshOf}
 use Rattle.decode.specs.Step.{freshDesk}
@@ -19,9 +19,10 @@ use Rattle.decode.proofs.Laws.{takenOf-acts, takenOf-sound, selectOf-acts, sele
 use Rattle.record.specs.Layout.{headOf, recordOf}
 use Rattle.record.proofs.Laws.{length-headOf, length-recordOf, readOf-recordOf, in-place, lent-cells}
 use Rattle.valid.proofs.Laws.{isValid-recordOf}
-use Rattle.standing.specs.Acts.{Act, pair, select, isChannel, isFormed, actOf, Meant}
+use Rattle.standing.specs.Acts.{Act, pair, select, isChannel, isFormed, actOf, atAct, areFormed, Meant}
 use Rattle.standing.specs.Decoder.{Lawful}
 use Rattle.standing.specs.Calls.{isSized}
+use Rattle.standing.proofs.Within.{areFormed-at}
 use Rattle.tray.specs.Captions.{stepOf, countOf, captionDecoder}
 
 isChannel-low : (c : ℕ) → isChannel c ≡ true → 1 ≤ c
@@ -64,9 +65,17 @@ pub isChannel-is : (c : ℕ) → (leb 1 c && leb c 2) ≡ isChannel c
 unfolding isChannel
 isChannel-is c = refl
 
-pub isFormed-is : (kind x y : ℕ) {ok : Bool} → ok ≡ isChannel x → (eqb kind 1 || (eqb kind 2 && (ok && eqb y 0))) ≡ isFormed kind x y
+pub isFormed-pair : (kind x y : ℕ) → kind ≡ 1 → true ≡ isFormed kind x y
 unfolding isFormed
-isFormed-is kind x y e = ap (λ (ok : Bool). eqb kind 1 || (eqb kind 2 && (ok && eqb y 0))) e
+isFormed-pair kind x y e = rw (eq-eqb kind 1 e)
+
+pub isFormed-other : (kind x y : ℕ) {ok : Bool} → (kind ≡ 1 → ⊥) → ok ≡ isChannel x → (eqb kind 2 && (ok && eqb y 0)) ≡ isFormed kind x y
+unfolding isFormed
+isFormed-other kind x y n e = rw (ne-eqb kind 1 n) (ap (λ (ok : Bool). eqb kind 2 && (ok && eqb y 0)) e)
+
+-- one act that is not well formed, and they are not all
+pub areFormed-broken : (l : List ℕ) (from count n : ℕ) → n < count → atAct isFormed l (from + n) ≡ false → false ≡ areFormed l from count
+areFormed-broken l from count n h e = same-test false (areFormed l from count) (λ t. cc) (λ t. sym e ∙ areFormed-at l from count n t h)
 
 pub actOf-pair : (kind x y : ℕ) → kind ≡ 1 → pair x y ≡ actOf kind x y
 unfolding actOf
