@@ -1,2 +1,3 @@
 -- The laws of `tray` that others cite.
 pub mod Laws
+mod LawsOfReplay

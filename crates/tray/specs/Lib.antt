@@ -1,3 +1,4 @@
--- The definitions of `tray`: the caption decoder for the theory, and what an act on the three buffers asks and gives.
+-- The definitions of `tray`: the caption decoder for the theory, what an act on the three buffers asks and gives, and which acts are text.
 pub mod Captions
 pub mod Given
+pub mod Text

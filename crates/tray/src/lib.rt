@@ -1,19 +1,22 @@
 // Log and tray: acts written and read, slots kept, and acts replayed on a record in place.
 use state::State;
 ghost use mathlib.Core.Path.{_≡_};
-ghost use mathlib.Core.Bool.{true};
+ghost use mathlib.Core.Bool.{true, _&&_};
 ghost use mathlib.Core.List.{[], _∷_};
-ghost use Prim.Native.Nat.{_+_, _*_, _≤_, _<_};
+ghost use Prim.Native.Nat.{_+_, _-_, _*_, _≤_, _<_};
+ghost use lib.Dec.{ltb};
 ghost use lib.ListN.{length, drop};
 ghost use Rattle.facts.specs.Over.{over};
 ghost use Rattle.state.specs.State.{desk};
 ghost use Rattle.decode.specs.Step.{freshDesk};
 ghost use Rattle.decode.specs.Sound.{SoundDesk};
+ghost use Rattle.decode.specs.Typed.{isNoneExpected};
 ghost use Rattle.record.specs.Layout.{stateOf, readOf, recordOf};
 ghost use Rattle.valid.specs.Valid.{isValid};
-ghost use Rattle.standing.specs.Acts.{isChannel, isFormed, actOf, areFormed};
+ghost use Rattle.standing.specs.Acts.{isChannel, isFormed, actOf, atAct, areFormed};
 ghost use Rattle.standing.specs.Calls.{isSized, keepOf, startOf, isStart, isReplayable, restoredOf, replayOf};
 ghost use Rattle.tray.specs.Captions.{stepOf, countOf, captionDecoder};
+ghost use Rattle.tray.specs.Text.{isTextAct};
 ghost use Rattle.tray.specs.Given.{Ready, afterOf, Given};
 
 // Whether the three buffers have their lengths.
@@ -91,7 +94,38 @@ fn are_formed(log: &[u8], from: usize, count: usize) -> bool
     true
 }
 
-// `count` acts of the log behind the first `from`, one after the other.
+// Whether the act behind the first n stands before `end` and is a pair of text.
+fn is_text_act(log: &[u8], n: usize, end: usize) -> bool
+    requires { ⌜ (end * 3 ≤ length (now log)) × (end ≤ 16000) ⌝ }
+    ensures { λ r. ⌜ r ≡ (ltb n end && atAct isTextAct (now (log .entry)) n) ⌝ }
+{
+    if n < end {
+        let at = n * 3;
+        return (log[at] == 1) & decode::is_text(log[at + 1]);
+    }
+    false
+}
+
+// Of `count` acts of the log behind the first `from`, those before the first that is no pair of text: the state behind them. Only the
+// style's cursor is in hand meanwhile, since x86-64 has no registers for the whole state.
+fn type_run(start: State, cells: &mut [u8], log: &[u8], from: usize, count: usize) -> State
+    requires { ⌜ SoundDesk (desk start (now cells)) × (isNoneExpected start ≡ true) × (start .acts + count ≤ 16000) × ((from + count) * 3 ≤ length (now log)) × (from + count ≤ 16000) ⌝ }
+    ensures { λ r. ⌜ (start .acts ≤ r .acts) × (r .acts ≤ start .acts + count)
+        × (desk r (now (cells .exit)) ≡ replayOf captionDecoder (desk start (now (cells .entry))) (now (log .entry)) from (r .acts - start .acts)) ⌝ }
+{
+    let mode = start.mode;
+    let end = from + count;
+    let mut cursor = mode.cursor();
+    let mut n: usize = 0;
+    while is_text_act(log, from + n, end) {
+        let at = (from + n) * 3;
+        cursor = decode::type_text(start, cells, cursor, log[at + 1], log[at + 2]);
+        n += 1;
+    }
+    decode::typed(start, cursor, n as u16)
+}
+
+// `count` acts of the log behind the first `from`, one after the other. Where no pair is expected, text goes on in a run.
 fn replay(start: State, cells: &mut [u8], log: &[u8], from: usize, count: usize) -> State
     requires { ⌜ SoundDesk (desk start (now cells)) × (start .acts + count ≤ 16000) × ((from + count) * 3 ≤ length (now log)) × (from + count ≤ 16000) × (areFormed (now log) from count ≡ true) ⌝ }
     ensures { λ r. ⌜ desk r (now (cells .exit)) ≡ replayOf captionDecoder (desk start (now (cells .entry))) (now (log .entry)) from count ⌝ }
@@ -102,6 +136,11 @@ fn replay(start: State, cells: &mut [u8], log: &[u8], from: usize, count: usize)
         let at = (from + n) * 3;
         state = step(state, cells, log[at], log[at + 1], log[at + 2]);
         n += 1;
+        if decode::is_none_expected(state) {
+            let acts = state.acts;
+            state = type_run(state, cells, log, from + n, count - n);
+            n += (state.acts - acts) as usize;
+        }
     }
     state
 }
