@@ -55,7 +55,7 @@ fn read_reel(reel: &mut [u8]) -> Got
     got
 }
 
-// One piece more: what goes out is counted here and nowhere else.
+// One piece more: what goes out is counted here and nowhere else. A register has at most 16,002 pieces of 65,536 bytes.
 fn send(sent: Sent, piece: &[u8]) -> Sent
     requires { ⌜ sent .n + length (now piece) ≤ 1048707072 ⌝ }
     ensures { λ r. ⌜ (r .n ≤ sent .n + length (now (piece .entry))) × (r .failed ≡ false → r .n ≡ sent .n + length (now (piece .entry))) ⌝ }
