@@ -22,10 +22,9 @@ use Rattle.typing.specs.Typing.{writeOf, writeAnyOf}
 use Rattle.typing.proofs.Laws.{writeOf-sound, isReady-writeAnyOf}
 use Rattle.acts.specs.Act.{actOf}
 use Rattle.acts.proofs.Laws.{actOf-sound}
-use Rattle.decode.specs.Pair.{captionsOf, withCaptions, told, clearedOf, typeOf, asTextOf, textCodeOf, typeAnyOf, isDamagedRepeat, ruleOneOf, ruleTwoOf, isPassedOver, controlOf, ruleThreeOf, ruleFourOf, pairOf}
+use Rattle.decode.specs.Pair.{captionsOf, withCaptions, told, clearedOf, isOpen, typeOf, asTextOf, textCodeOf, typeAnyOf, isDamagedRepeat, ruleOneOf, ruleTwoOf, isPassedOver, controlOf, ruleThreeOf, ruleFourOf, pairOf}
 use Rattle.decode.specs.Step.{takenOf, selectOf, freshDesk}
 use Rattle.decode.specs.Sound.{SoundDesk}
-use Rattle.decode.specs.Typed.{isOpen}
 
 -- "20h–7Fh" are cell codes
 text-isCode : (code : ℕ) → 0x20 ≤ code → code < 128 → isCode code ≡ true

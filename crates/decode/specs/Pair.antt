@@ -33,10 +33,13 @@ told s stream first second = state (s .acts) (s .selected) stream first second (
 unfoldable pub clearedOf : Desk → Desk
 clearedOf d = desk (told (d .state) (d .state .stream) 0 0) (d .cells)
 
--- "Writing happens only while the stream's channel is the selected one, a style is set, and Text is off."
+-- "the stream's channel is the selected one, a style is set, and Text is off"
+abbrev pub isOpen : State → Bool
+isOpen s = eqb (s .stream) (s .selected) && isReady (s .mode)
+
+-- "Writing happens only while" that is so
 unfoldable pub typeOf : Desk → ℕ → Desk
-typeOf d code =
-    pick (eqb (d .state .stream) (d .state .selected) && isReady (d .state .mode)) (withCaptions d (writeOf (captionsOf d) code)) d
+typeOf d code = pick (isOpen (d .state)) (withCaptions d (writeOf (captionsOf d) code)) d
 
 -- "Text: a bad byte writes 7Fh, a good one from 20h writes itself, a good one below 20h does nothing."
 unfoldable pub asTextOf : Desk → ℕ → Desk

@@ -8,11 +8,7 @@ use Rattle.wire.specs.Byte.{lowSeven}
 use Rattle.cell.specs.declared.Cursor.{Cursor}
 use Rattle.state.specs.declared.State.{State}
 use Rattle.state.specs.State.{state}
-use Rattle.state.specs.Style.{isReady, withCursor}
-
--- "the stream's channel is the selected one, a style is set, and Text is off": the gate of `typeOf`
-abbrev pub isOpen : State → Bool
-isOpen s = eqb (s .stream) (s .selected) && isReady (s .mode)
+use Rattle.state.specs.Style.{withCursor}
 
 -- "expected a, b .. (0, 0 none)"
 abbrev pub isNoneExpected : State → Bool

@@ -12,9 +12,9 @@ ghost use Rattle.cell.specs.Cursor.{Placed};
 ghost use Rattle.codes.specs.Codes.{codeOf};
 ghost use Rattle.state.specs.State.{captions, desk};
 ghost use Rattle.state.specs.Ranges.{Ranged, Sound};
-ghost use Rattle.decode.specs.Pair.{told, typeAnyOf, textCodeOf, isDamagedRepeat, controlOf, ruleThreeOf, pairOf};
+ghost use Rattle.decode.specs.Pair.{told, isOpen, typeAnyOf, textCodeOf, isDamagedRepeat, controlOf, ruleThreeOf, pairOf};
 ghost use Rattle.decode.specs.Step.{takenOf, selectOf};
-ghost use Rattle.decode.specs.Typed.{isOpen, isNoneExpected, isText, typedOf};
+ghost use Rattle.decode.specs.Typed.{isNoneExpected, isText, typedOf};
 
 // No pair is expected any more.
 fn cleared(mut state: State) -> State

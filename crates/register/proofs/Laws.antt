@@ -6,7 +6,7 @@ use Prim.Native.Nat.{ℕ, _+_, _*_, _<_, _≤_}
 use native.Mathlib.Omega.{arith}
 use lib.Dec.{ltb}
 use lib.ListN.{length}
-use borrow.Author.Tests.{ltb-true, ltb-false}
+use borrow.Author.Tests.{ltb-true, ltb-false, not-true}
 use Rattle.facts.proofs.Choice.{and-left, and-right}
 use Rattle.runs.specs.Register.{registerOf}
 use Rattle.walk.specs.Walk.{Place, atEnd, startOf, Fit, stepsOf}
@@ -17,16 +17,11 @@ use Rattle.walk.proofs.LawsOfPieces.{handed-rest, handed-fit, handed-on}
 
 -- The loop goes on while all is not given and no write has failed.
 
-false-true : false ≡ true → ⊥
-false-true e = let z : _≡_ {A = ℕ} 0 1 = cc in omega arith
-
 pub goes-on : (stage : ℕ) (failed : Bool) → (ltb stage atEnd && not failed) ≡ true → (stage < atEnd) × (failed ≡ false)
-goes-on stage true e = absurd (false-true (and-right (ltb stage atEnd) false e))
-goes-on stage false e = (ltb-true stage atEnd (and-left (ltb stage atEnd) true e), refl)
+goes-on stage failed e = (ltb-true stage atEnd (and-left (ltb stage atEnd) (not failed) e), not-true failed (and-right (ltb stage atEnd) (not failed) e))
 
 pub is-done : (stage : ℕ) (failed : Bool) → (ltb stage atEnd && not failed) ≡ false → failed ≡ false → atEnd ≤ stage
-is-done stage true e whole = absurd (false-true (sym whole))
-is-done stage false e whole = ltb-false stage atEnd (left (ltb stage atEnd) e)
+is-done stage failed e whole = ltb-false stage atEnd (left (ltb stage atEnd) (rw whole at e))
   where
     left : (t : Bool) → (t && true) ≡ false → t ≡ false
     left true f = f

@@ -6,7 +6,7 @@ use Prim.Native.Nat.{ℕ, _+_, _-_, _*_, _<_, _≤_}
 use native.Mathlib.Omega.{arith}
 use lib.Dec.{ltb, eqb}
 use lib.ListN.{length, getD, getD-replicate}
-use borrow.Author.Tests.{lt-ltb, le-ltb, ltb-true, lt-leb, eqb-true, eq-eqb}
+use borrow.Author.Tests.{lt-ltb, le-ltb, ltb-true, lt-leb, eqb-true, eq-eqb, not-false}
 use Rattle.facts.proofs.Choice.{pick-first, pick-cases, and-left, and-right, and-both, same-test}
 use Rattle.wire.specs.declared.Line.the-variants.{Pair, End}
 use Rattle.wire.specs.Line.{lineAt}
@@ -19,10 +19,6 @@ use Rattle.runs.specs.Runs.{isSame, isSeen, seenOf, emptyScreen}
 use Rattle.runs.specs.Register.{textOf, refusalOf}
 
 -- What is printed of stretches that show nothing is nothing.
-
-pub unseen : (t : Bool) → not t ≡ false → t ≡ true
-unseen true e = refl
-unseen false e = cc
 
 -- equal in every byte: the test passes exactly where the screens are one
 pub isSame-equal : (a b : List ℕ) → isSame a b ≡ true → a ≡ b
@@ -46,7 +42,7 @@ sameScreenOf-isSame a b p q =
 -- a screen that is all empty prints nothing
 unseen-lines : (r : Run) → isSeen (r .screen) ≡ false → linesOf r ≡ []
 unseen-lines r e =
-    let empty = isSame-equal (r .screen) emptyScreen (unseen (isSame (r .screen) emptyScreen) e) in
+    let empty = isSame-equal (r .screen) emptyScreen (not-false (isSame (r .screen) emptyScreen) e) in
     linesOf-empty r (isEmptyOf-of (r .screen) displayed (λ k h. ap (λ (l : List ℕ). getD l (0 + k) 0) empty ∙ getD-replicate 960 (0 + k) 0 0 (omega arith)))
 
 pub textOf-seenOf : (rs : List Run) → textOf (seenOf rs) ≡ textOf rs

@@ -7,11 +7,12 @@ use Prim.Native.Nat.{ℕ, suc, _+_, _-_, _≤_, _<_}
 use native.Mathlib.Nat.{add-zero, zero-add}
 use native.Mathlib.Omega.{arith}
 use lib.ListN.{length, getD}
+use borrow.Author.Tests.{not-false}
 use Rattle.facts.proofs.Choice.{pick-cases, below-cases}
 use Rattle.lines.specs.Line.{Run, run}
 use Rattle.runs.specs.Runs.{isSame, stretchesFrom, emptyScreen, isSeen, seenOf, runsOf}
 use Rattle.runs.specs.Sentence.{screenAt, IsStretch, IsRun, All, One, Ordered, Within}
-use Rattle.runs.proofs.Laws.{isSame-equal, equal-isSame, unseen}
+use Rattle.runs.proofs.Laws.{isSame-equal, equal-isSame}
 
 -- stretches one behind the other, from frame a on to the last
 Chain : List (List ℕ) → ℕ → List Run → Type 0
@@ -98,7 +99,7 @@ screen-seen s ne = go (isSeen s) refl
   where
     go : (t : Bool) → isSeen s ≡ t → isSeen s ≡ true
     go true e = e
-    go false e = absurd (ne (isSame-equal s emptyScreen (unseen (isSame s emptyScreen) e)))
+    go false e = absurd (ne (isSame-equal s emptyScreen (not-false (isSame s emptyScreen) e)))
 
 all-so : {P Q : Run → Type 0} (rs : List Run) → ((r : Run) → P r → Q r) → All P rs → All Q rs
 all-so [] f h = tt
@@ -148,7 +149,7 @@ chain-one all a k (r ∷ rs) h low high ne =
     let same = h .1 .equal k (omega arith) inside in
     pick-cases (One (Within k)) (isSeen (r .screen))
     (λ t. inl ((omega arith, inside), all-so {P = λ q. r .to + 1 ≤ q .from} {Q = λ q. Within k q → ⊥} (seenOf rs) (λ q l w. omega (arith, w)) later))
-    (λ t. absurd (ne (same ∙ isSame-equal (r .screen) emptyScreen (unseen (isSame (r .screen) emptyScreen) t)))))
+    (λ t. absurd (ne (same ∙ isSame-equal (r .screen) emptyScreen (not-false (isSame (r .screen) emptyScreen) t)))))
 
 -- The paper's sentence.
 
