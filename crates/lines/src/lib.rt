@@ -60,7 +60,7 @@ fn put_head(out: &mut [u8], n: usize, from: usize, to: usize, row: usize)
 }
 
 // How many cells of the row that starts at `at` stand before its first non-empty one.
-fn lead(screen: &[u8], at: usize) -> usize
+pub fn lead(screen: &[u8], at: usize) -> usize
     requires { ⌜ at + 64 ≤ length (now screen) ⌝ }
     ensures { λ r. ⌜ (r ≡ leadOf (now (screen .entry)) at 32) × (r ≤ 32) ⌝ }
 {
@@ -76,7 +76,7 @@ fn lead(screen: &[u8], at: usize) -> usize
 
 // How many stand up to its last non-empty one; 0 where there is none. Most rows of a screen are empty, and such a row is passed over as a
 // whole; in the others the last cell is come to from the back.
-fn end(screen: &[u8], at: usize) -> usize
+pub fn end(screen: &[u8], at: usize) -> usize
     requires { ⌜ at + 64 ≤ length (now screen) ⌝ }
     ensures { λ r. ⌜ (r ≡ endOf (now (screen .entry)) at 32) × (r ≤ 32) ⌝ }
 {

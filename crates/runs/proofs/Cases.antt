@@ -17,10 +17,11 @@ use Rattle.styles.specs.Styles.{rclOf, rdcOf, textOf as textModeOf, edmOf, enmO
 use Rattle.rollup.specs.Rollup.{openedOf, framedOf, ruOf, crOf}
 use Rattle.acts.specs.Act.{gated, actOf}
 use Rattle.decode.specs.Pair.{clearedOf, typeOf, asTextOf, ruleOneOf, ruleTwoOf, controlOf, ruleThreeOf, ruleFourOf, pairOf}
+use Rattle.decode.specs.Play.{displayedOf}
 use Rattle.decode.specs.Step.{freshDesk}
 use Rattle.lines.specs.Span.{leadMoreOf, endMoreOf, leadOf, endOf}
 use Rattle.lines.specs.Line.{header, digitOf as decimalOf, frameOf, rowOf, headOf, codesOf, lineOf as rowTextOf, rowLineOf, topLinesOf, refusedOf}
-use Rattle.runs.specs.Frames.{screenOf, screensFrom, framesOf}
+use Rattle.runs.specs.Frames.{screensFrom, framesOf}
 use Rattle.runs.specs.Runs.{stretchesFrom, runsOf}
 use Rattle.runs.specs.Register.{textOf, refusalOf, registerOf}
 
@@ -76,5 +77,5 @@ small =
     ∷ []
 
 pub registers : Registers small
-unfolding isGood lowSeven digitOf hexOf judgeOf lineAt lineOf packOf unpackOf afterMidRow ofPreamble flashing afterWriteOf backOf tabOf preambleColumnOf preambleRowOf channelOf withoutChannelOf midRowOrSpecialOf tabOffsetOf preambleCodeOf channelOneCodeOf codeOf writeCellOf emptyCellOf emptyFromOf emptyRowsOf emptyAllOf exchangedOf rollOf emptyOutsideOf moveOf isReady cursorOf withCursor memoryOf writeOf turnedOf attributeOf midRowOf fonOf bsOf derOf tabbedOf movedOf preambleOf rclOf rdcOf textModeOf edmOf enmOf eocOf openedOf framedOf ruOf crOf gated actOf clearedOf typeOf asTextOf ruleOneOf ruleTwoOf controlOf ruleThreeOf ruleFourOf pairOf freshDesk leadMoreOf endMoreOf leadOf endOf decimalOf frameOf rowOf headOf codesOf rowTextOf rowLineOf topLinesOf refusedOf screenOf screensFrom framesOf stretchesFrom runsOf textOf refusalOf registerOf
+unfolding isGood lowSeven digitOf hexOf judgeOf lineAt lineOf packOf unpackOf afterMidRow ofPreamble flashing afterWriteOf backOf tabOf preambleColumnOf preambleRowOf channelOf withoutChannelOf midRowOrSpecialOf tabOffsetOf preambleCodeOf channelOneCodeOf codeOf writeCellOf emptyCellOf emptyFromOf emptyRowsOf emptyAllOf exchangedOf rollOf emptyOutsideOf moveOf isReady cursorOf withCursor memoryOf writeOf turnedOf attributeOf midRowOf fonOf bsOf derOf tabbedOf movedOf preambleOf rclOf rdcOf textModeOf edmOf enmOf eocOf openedOf framedOf ruOf crOf gated actOf clearedOf typeOf asTextOf ruleOneOf ruleTwoOf controlOf ruleThreeOf ruleFourOf pairOf freshDesk leadMoreOf endMoreOf leadOf endOf decimalOf frameOf rowOf headOf codesOf rowTextOf rowLineOf topLinesOf refusedOf displayedOf screensFrom framesOf stretchesFrom runsOf textOf refusalOf registerOf
 registers = (refl, (refl, (refl, (refl, (refl, tt)))))

@@ -4,7 +4,6 @@
 use mathlib.Core.List.{List, [], _∷_}
 use Prim.Native.Nat.{ℕ, zero, suc, _+_, _*_}
 use lib.Dec.{ltb}
-use lib.ListN.{take}
 use Rattle.facts.specs.Choice.{pick}
 use Rattle.wire.specs.declared.Line.{Line}
 use Rattle.wire.specs.declared.Line.the-variants.{Pair, End, Bad}
@@ -12,10 +11,11 @@ use Rattle.wire.specs.Line.{lineAt}
 use Rattle.state.specs.State.{Desk}
 use Rattle.decode.specs.Pair.{pairOf}
 use Rattle.decode.specs.Step.{freshDesk}
+use Rattle.decode.specs.Play.{displayedOf}
 
--- the "displayed cells", 960 bytes
-unfoldable pub screenOf : Desk → List ℕ
-screenOf d = take 960 (d .cells)
+-- what a desk shows
+abbrev pub screenOf : Desk → List ℕ
+screenOf d = displayedOf (d .cells)
 
 -- a good line goes on with its pair; "A bad or unfinished line ends it", and so does the end of the input
 abbrev pub onPair : Line → (ℕ → ℕ → List (List ℕ)) → List (List ℕ)

@@ -41,7 +41,7 @@ fn is_valid_state(state: State) -> bool
 }
 
 // A row. Most are empty, and 64 bytes that are 0 are told at once; any other is tested cell by cell, as one flag with no way out.
-fn is_row(bytes: &[u8], at: usize) -> bool
+pub fn is_row(bytes: &[u8], at: usize) -> bool
     requires { ⌜ at + 64 ≤ length (now bytes) ⌝ }
     ensures { λ r. ⌜ r ≡ isRow (now (bytes .entry)) at ⌝ }
 {

@@ -17,6 +17,7 @@ use Rattle.state.specs.declared.State.{State}
 use Rattle.state.specs.State.{Desk, desk}
 use Rattle.decode.specs.Pair.{pairOf}
 use Rattle.decode.specs.Step.{freshDesk}
+use Rattle.decode.specs.Play.{displayedOf}
 use Rattle.decode.specs.Sound.{SoundDesk}
 use Rattle.decode.proofs.Laws.{pairOf-sound, freshDesk-sound}
 use Rattle.lines.specs.Line.{header, run, linesOf, refusedOf, Put}
@@ -31,7 +32,7 @@ use Rattle.walk.proofs.Laws.{comingOf, restOf, coming-none, rest-shown,
 -- What steps ask is there at the start, and is kept.
 
 length-screenOf : (d : Desk) → SoundDesk d → length (screenOf d) ≡ 960
-unfolding screenOf
+unfolding displayedOf
 length-screenOf d h = let n = h .captions .cells .size in length-take-le 960 (d .cells) (omega arith)
 
 pub start-fit : Fit startOf
@@ -55,11 +56,11 @@ module _ (p : Place) (first second : ℕ) (stays : Bool) {s : State} {cells : Li
     (t : isSame (take 960 cells) (p .held) ≡ stays)
   where
     stays-by : staysOf p first second ≡ stays
-    unfolding screenOf
+    unfolding displayedOf
     stays-by = ap (λ (d : Desk). isSame (screenOf d) (p .held)) (sym e) ∙ t
 
     pub shown-place : place (walk 1 (p .walk .frame + 1) (pick stays (p .walk .since) (p .walk .frame + 1)) s) cells (pick stays (p .held) (take 960 cells)) ≡ shownOf p first second
-    unfolding screenOf shownOf
+    unfolding displayedOf shownOf
     shown-place =
         λ i. place (walk 1 (p .walk .frame + 1) (pick (sym stays-by i) (p .walk .since) (p .walk .frame + 1)) (e i .state)) (e i .cells) (pick (sym stays-by i) (p .held) (screenOf (e i)))
 

@@ -1,9 +1,10 @@
--- A byte is good or bad by the number of its one bits, and what it says is its low seven bits.
--- Paper 01, "Pair rules, in this order"; 47 CFR 15.119 (j), odd parity.
+-- A byte is good or bad by the number of its one bits, what it says is its low seven bits, and what is sent is good.
+-- Paper 01, "Pair rules, in this order"; Paper 02, request 1; 47 CFR 15.119 (j), odd parity.
 -- Assumes nothing.
 use Prim.Native.Nat.{ℕ, zero, suc, _+_, _/_, _%_}
 use mathlib.Core.Bool.{Bool}
 use lib.Dec.{eqb}
+use Rattle.facts.specs.Choice.{pick}
 
 -- the one bits among the low n
 abbrev pub onesAmong : ℕ → ℕ → ℕ
@@ -21,3 +22,7 @@ isGood byte = eqb (onesOf byte % 2) 1
 -- "the low seven bits"
 unfoldable pub lowSeven : ℕ → ℕ
 lowSeven byte = byte % 128
+
+-- a value as it is sent: the good byte with the same low seven bits
+unfoldable pub sentOf : ℕ → ℕ
+sentOf value = pick (isGood (lowSeven value)) (lowSeven value) (lowSeven value + 0x80)

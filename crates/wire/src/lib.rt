@@ -2,7 +2,7 @@
 ghost use mathlib.Core.Path.{_≡_};
 ghost use mathlib.Core.List.{[], _∷_};
 ghost use Prim.Native.Nat.{_<_};
-ghost use Rattle.wire.specs.Byte.{isGood, lowSeven};
+ghost use Rattle.wire.specs.Byte.{isGood, lowSeven, sentOf};
 ghost use Rattle.wire.specs.Line.{digitOf, hexOf, judgeOf, lineAt};
 ghost use Rattle.wire.specs.Written.{outcome, writeLineOf};
 ghost use Rattle.wire.specs.Numbers.{readingOf, readLineOf, numberOfWritten, valueOfWritten};
@@ -32,6 +32,17 @@ pub fn low_seven(byte: u8) -> u8
     ensures { λ r. ⌜ (r ≡ lowSeven byte) × (r < 128) ⌝ }
 {
     byte & 0x7f
+}
+
+// A value as it is sent: with the parity bit that makes it good.
+pub fn sent(value: u8) -> u8
+    ensures { λ r. ⌜ r ≡ sentOf value ⌝ }
+{
+    let low = low_seven(value);
+    if is_good(low) {
+        return low;
+    }
+    low + 0x80
 }
 
 // The value of a digit, 0-9 A-F; 16 for any other byte.

@@ -1,0 +1,6 @@
+-- The definitions of `tape`, in reading order: the pairs of an item, the preamble of a row, which screens are writable, the tape of a screen, and a programme of screens.
+pub mod Item
+pub mod Preamble
+pub mod Writable
+pub mod Tape
+pub mod Programme
