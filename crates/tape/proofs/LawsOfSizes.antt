@@ -1,7 +1,7 @@
--- How long a tape is: so many bytes an item at most, and `longest` in all; a row's items one by one; and what it is made of is bytes. Assumes nothing.
+-- How long a tape is: so many bytes an item at most, and `longest` in all; a row's items one by one; and what tapes and programmes are made of is whole pairs. Assumes nothing.
 use mathlib.Core.Path.{_≡_, refl, sym, ap, _∙_}
 use mathlib.Core.Bool.{Bool, true, false}
-use mathlib.Core.List.{List, [], _∷_, _++_}
+use mathlib.Core.List.{List, [], _∷_, _++_, append-assoc}
 use Prim.Native.Nat.{ℕ, zero, suc, _+_, _-_, _*_, _/_, _<_, _≤_}
 use native.Mathlib.Omega.{arith}
 use lib.Dec.{eqb, leb, ltb}
@@ -9,17 +9,18 @@ use lib.ListN.{length, length-append}
 use borrow.Author.Tests.{lt-ltb, le-ltb, ltb-true, ltb-false}
 use Rattle.facts.specs.Choice.{pick}
 use Rattle.facts.proofs.Choice.{pick-cases}
-use Rattle.wire.specs.Reel.{Bytes}
+use Rattle.wire.specs.Reel.{Pairs, pairsOf}
 use Rattle.wire.proofs.LawsOfSent.{sentOf-byte}
-use Rattle.wire.proofs.LawsOfReel.{bytes-then}
+use Rattle.wire.proofs.LawsOfReel.{pairs-then}
 use Rattle.lines.specs.Span.{leadOf, endOf}
 use Rattle.lines.proofs.Printed.{endOf-last}
 use Rattle.tape.specs.declared.Item.{Item}
-use Rattle.tape.specs.Item.{item, rclItem, enmItem, eocItem, isPlain, gapOf, nextItemOf, bytesOf, widest}
+use Rattle.tape.specs.Item.{item, rclItem, edmItem, enmItem, eocItem, isPlain, gapOf, nextItemOf, bytesOf, widest}
 use Rattle.wire.specs.Byte.{sentOf}
 use Rattle.tape.specs.Preamble.{preambleItemOf}
 use Rattle.tape.specs.Writable.{rowPenOf}
 use Rattle.tape.specs.Tape.{codeBefore, itemAt, itemsOf, restOf, filledRowOf, rowTapeOf, rowsTapeOf, loadingOf, tapeOf, longest}
+use Rattle.tape.specs.Programme.{nullsOf, Cue, show, clear, wait, cueOf, programmeOf}
 
 pub length-bytesOf : (channel : ℕ) (i : Item) → length (bytesOf channel i) ≤ widest
 unfolding bytesOf
@@ -95,39 +96,63 @@ module _ (channel : ℕ) (memory : List ℕ) where
   length-tapeOf =
       simp length-append (omega (arith, length-bytesOf channel rclItem, length-bytesOf channel enmItem, length-bytesOf channel eocItem, length-rowsTapeOf 15))
 
--- What it is made of is bytes.
+-- What it is made of is whole pairs of bytes.
 
-pub bytesOf-bytes : (channel : ℕ) (i : Item) → Bytes (bytesOf channel i)
+pub bytesOf-pairs : (channel : ℕ) (i : Item) → Pairs (bytesOf channel i)
 unfolding bytesOf
-bytesOf-bytes channel i =
+bytesOf-pairs channel i =
     let a = sentOf-byte (i .first + (channel - 1) * 8) in
     let b = sentOf-byte (i .second) in
-    pick-cases Bytes (ltb (i .first) 0x20) (λ t. (a, (b, (a, (b, tt))))) (λ t. (sentOf-byte (i .first), (b, tt)))
+    pick-cases Pairs (ltb (i .first) 0x20) (λ t. (a, b, (a, b, tt))) (λ t. (sentOf-byte (i .first), b, tt))
+
+pub nullsOf-pairs : (n : ℕ) → Pairs (nullsOf n)
+nullsOf-pairs zero = tt
+nullsOf-pairs (suc n) = (omega arith, omega arith, nullsOf-pairs n)
+
+pub pairsOf-nullsOf : (n : ℕ) → pairsOf (nullsOf n) ≡ n
+pairsOf-nullsOf zero = refl
+pairsOf-nullsOf (suc n) = ap suc (pairsOf-nullsOf n)
 
 module _ (channel : ℕ) (memory : List ℕ) where
-  itemsOf-bytes : (at end k most : ℕ) → Bytes (itemsOf channel memory at end k most)
-  itemsOf-bytes at end k zero = tt
-  itemsOf-bytes at end k (suc most) =
+  itemsOf-pairs : (at end k most : ℕ) → Pairs (itemsOf channel memory at end k most)
+  itemsOf-pairs at end k zero = tt
+  itemsOf-pairs at end k (suc most) =
       let i = itemAt memory at end k in
-      pick-cases Bytes (ltb k end) (λ t. bytes-then (bytesOf channel i) _ (bytesOf-bytes channel i) (itemsOf-bytes at end (k + i .columns) most)) (λ t. tt)
+      pick-cases Pairs (ltb k end) (λ t. pairs-then (bytesOf channel i) _ (bytesOf-pairs channel i) (itemsOf-pairs at end (k + i .columns) most)) (λ t. tt)
 
-  rowTapeOf-bytes : (row : ℕ) → Bytes (rowTapeOf channel memory row)
+  rowTapeOf-pairs : (row : ℕ) → Pairs (rowTapeOf channel memory row)
   unfolding rowTapeOf filledRowOf restOf
-  rowTapeOf-bytes row =
+  rowTapeOf-pairs row =
       let at = row * 64 in
       let i = preambleItemOf row (rowPenOf memory at) (leadOf memory at 32) in
-      pick-cases Bytes (eqb (endOf memory at 32) 0) (λ t. tt) (λ t. bytes-then (bytesOf channel i) _ (bytesOf-bytes channel i) (itemsOf-bytes at (endOf memory at 32) (i .columns) (endOf memory at 32 - i .columns)))
+      pick-cases Pairs (eqb (endOf memory at 32) 0) (λ t. tt) (λ t. pairs-then (bytesOf channel i) _ (bytesOf-pairs channel i) (itemsOf-pairs at (endOf memory at 32) (i .columns) (endOf memory at 32 - i .columns)))
 
-  rowsTapeOf-bytes : (n : ℕ) → Bytes (rowsTapeOf channel memory n)
+  rowsTapeOf-pairs : (n : ℕ) → Pairs (rowsTapeOf channel memory n)
   unfolding rowsTapeOf
-  rowsTapeOf-bytes zero = tt
-  rowsTapeOf-bytes (suc n) = bytes-then (rowsTapeOf channel memory n) _ (rowsTapeOf-bytes n) (rowTapeOf-bytes n)
+  rowsTapeOf-pairs zero = tt
+  rowsTapeOf-pairs (suc n) = pairs-then (rowsTapeOf channel memory n) _ (rowsTapeOf-pairs n) (rowTapeOf-pairs n)
 
-  pub loadingOf-bytes : Bytes (loadingOf memory channel)
+  pub loadingOf-pairs : Pairs (loadingOf memory channel)
   unfolding loadingOf
-  loadingOf-bytes =
-      bytes-then (bytesOf channel rclItem ++ bytesOf channel enmItem) _ (bytes-then (bytesOf channel rclItem) _ (bytesOf-bytes channel rclItem) (bytesOf-bytes channel enmItem)) (rowsTapeOf-bytes 15)
+  loadingOf-pairs =
+      pairs-then (bytesOf channel rclItem ++ bytesOf channel enmItem) _ (pairs-then (bytesOf channel rclItem) _ (bytesOf-pairs channel rclItem) (bytesOf-pairs channel enmItem)) (rowsTapeOf-pairs 15)
 
-  pub tapeOf-bytes : Bytes (tapeOf memory channel)
+  pub tapeOf-pairs : Pairs (tapeOf memory channel)
   unfolding tapeOf
-  tapeOf-bytes = bytes-then (loadingOf memory channel) _ loadingOf-bytes (bytesOf-bytes channel eocItem)
+  tapeOf-pairs = pairs-then (loadingOf memory channel) _ loadingOf-pairs (bytesOf-pairs channel eocItem)
+
+-- A programme.
+
+pub cueOf-pairs : (c : Cue) → Pairs (cueOf c)
+cueOf-pairs (show memory channel held) =
+    pairs-then (loadingOf memory channel) _ (loadingOf-pairs channel memory) (pairs-then (nullsOf held) _ (nullsOf-pairs held) (bytesOf-pairs channel eocItem))
+cueOf-pairs (clear channel) = bytesOf-pairs channel edmItem
+cueOf-pairs (wait n) = nullsOf-pairs n
+
+pub programmeOf-pairs : (cs : List Cue) → Pairs (programmeOf cs)
+programmeOf-pairs [] = tt
+programmeOf-pairs (c ∷ more) = pairs-then (cueOf c) (programmeOf more) (cueOf-pairs c) (programmeOf-pairs more)
+
+pub programmeOf-then : (cs ds : List Cue) → programmeOf (cs ++ ds) ≡ programmeOf cs ++ programmeOf ds
+programmeOf-then [] ds = refl
+programmeOf-then (c ∷ more) ds = ap (λ (l : List ℕ). cueOf c ++ l) (programmeOf-then more ds) ∙ sym (append-assoc (cueOf c) (programmeOf more) (programmeOf ds))

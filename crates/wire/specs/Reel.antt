@@ -5,10 +5,11 @@ use Prim.Native.Nat.{ℕ, suc, _<_}
 use mathlib.Core.List.{List, [], _∷_, _++_}
 use Rattle.wire.specs.Line.{lineOf}
 
--- each is a byte
-abbrev pub Bytes : List ℕ → Type 0
-Bytes [] = Unit
-Bytes (x ∷ l) = (x < 256) × Bytes l
+-- whole pairs, of bytes
+abbrev pub Pairs : List ℕ → Type 0
+Pairs [] = Unit
+Pairs (x ∷ []) = ⊥
+Pairs (x ∷ y ∷ more) = (x < 256) × (y < 256) × Pairs more
 
 -- how many pairs raw bytes have; a byte without a second is none
 abbrev pub pairsOf : List ℕ → ℕ
