@@ -29,8 +29,8 @@ use Rattle.standing.specs.Runs.{Ask, give, back, mine, after, owed, ruled}
 use Rattle.standing.specs.Bytes.{deskOf, buffersOf}
 use Rattle.standing.proofs.Runs.{AllBytes, fair-own}
 use Rattle.standing.proofs.Standing.{what-stands-is, stands-by-rule, same-standing}
-use Rattle.tray.specs.Captions.{captionDecoder}
-use Rattle.tray.proofs.Laws.{captionDecoder-lawful}
+use Rattle.replay.specs.Captions.{captionDecoder}
+use Rattle.replay.proofs.Laws.{captionDecoder-lawful}
 
 -- calls on a newly opened desk; then all that the cells hold, as places with the bytes from there on, the style, and the style's row and column
 record Example : Type 0 where

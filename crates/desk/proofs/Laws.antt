@@ -14,7 +14,7 @@ use Rattle.valid.specs.Valid.{isValid}
 use Rattle.standing.specs.Acts.{Act, isAllowed, entryOf, actOf}
 use Rattle.standing.specs.Calls.{Buffers, three, Given, Outcome, done, need, isFit, keepOf, openOf, giveOf, takeOf, actedOf, isReplayable, steppedOf, backOf}
 use Rattle.standing.proofs.Ways.{give-done}
-use Rattle.tray.specs.Captions.{stepOf, countOf, captionDecoder}
+use Rattle.replay.specs.Captions.{stepOf, countOf, captionDecoder}
 use Rattle.tray.specs.Given.{Given as Acted}
 use Rattle.desk.specs.declared.Answer.{Answer}
 use Rattle.desk.specs.declared.Answer.the-variants.{Done, WrongLength, NoSuch, Full, TooFar, Invalid}

@@ -17,8 +17,8 @@ use Rattle.standing.specs.Calls.{Buffers, opened, refused, isFit, isReplayable,
 use Rattle.standing.specs.Runs.{Ask, Call, callOf, after, Fair, alone, standing}
 use Rattle.standing.proofs.Runs.{refusal}
 use Rattle.standing.proofs.Standing.{what-stands-remains}
-use Rattle.tray.specs.Captions.{countOf, captionDecoder}
-use Rattle.tray.proofs.Laws.{captionDecoder-lawful}
+use Rattle.replay.specs.Captions.{countOf, captionDecoder}
+use Rattle.replay.proofs.Laws.{captionDecoder-lawful}
 use Rattle.desk.proofs.Laws.{openOf-number, giveOf-number, backOf-number, takeOf-desk}
 
 -- DEMAND 1. "every call takes every input and ends": no public call of this crate has a requires, and each is proved to end.

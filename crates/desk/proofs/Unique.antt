@@ -3,7 +3,7 @@ use mathlib.Core.Path.{_≡_, ap, sym, _∙_}
 use mathlib.Core.List.{List}
 use Prim.Native.Nat.{ℕ}
 use Rattle.standing.specs.Calls.{Given, Outcome, outcome, openOf, takeOf, selectOf, backOf}
-use Rattle.tray.specs.Captions.{captionDecoder}
+use Rattle.replay.specs.Captions.{captionDecoder}
 use Rattle.desk.specs.declared.Answer.{Answer}
 use Rattle.desk.specs.Numbers.{given}
 use Rattle.desk.specs.Looks.{rowOf, viewOf, viewNumberOf}

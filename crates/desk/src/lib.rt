@@ -3,7 +3,7 @@
 use cell::Row;
 ghost use mathlib.Core.Path.{_≡_};
 ghost use Rattle.standing.specs.Calls.{outcome, openOf, takeOf, selectOf, backOf};
-ghost use Rattle.tray.specs.Captions.{captionDecoder};
+ghost use Rattle.replay.specs.Captions.{captionDecoder};
 ghost use Rattle.desk.specs.Numbers.{given};
 ghost use Rattle.desk.specs.Looks.{rowOf, viewOf, viewNumberOf};
 
@@ -59,7 +59,7 @@ pub fn select(desk: &mut [u8], log: &mut [u8], tray: &mut [u8], channel: u8) -> 
 {
     if tray::is_sized(desk.len(), log.len(), tray.len()) {
         if valid::is_valid(desk) {
-            if tray::is_channel(channel) {
+            if replay::is_channel(channel) {
                 let state = record::read_state(desk);
                 let acts = state.acts;
                 if acts < 16000 {

@@ -7,7 +7,7 @@ use Rattle.wire.specs.Line.{lineAt}
 use Rattle.wire.specs.Written.{writeLineOf}
 use Rattle.standing.specs.Acts.{pair, select}
 use Rattle.standing.specs.Calls.{three, Given, gives, Outcome, openOf, takeOf, selectOf, backOf}
-use Rattle.tray.specs.Captions.{captionDecoder}
+use Rattle.replay.specs.Captions.{captionDecoder}
 use Rattle.desk.specs.Looks.{rowOf}
 use Rattle.loikrasun.specs.Packed.{packedOf, numberIn, valueIn, givenLine, givenView, Ended, ended, endedOf, Filled, filled, writtenOf, viewedOf}
 use Rattle.loikrasun.proofs.Laws.{result-viewedOf}

@@ -20,8 +20,8 @@ use Rattle.valid.specs.Valid.{isValid}
 use Rattle.valid.proofs.Laws.{isValid-sound}
 use Rattle.standing.specs.Acts.{Act, isAllowed}
 use Rattle.standing.specs.Calls.{Buffers, Given, gives, Outcome, need, isFit, openOf, giveOf, actedOf, isReplayable, steppedOf, backOf}
-use Rattle.tray.specs.Captions.{countOf, captionDecoder}
-use Rattle.tray.proofs.Laws.{step-acts}
+use Rattle.replay.specs.Captions.{countOf, captionDecoder}
+use Rattle.replay.proofs.Laws.{step-acts}
 use Rattle.desk.specs.Looks.{isRowNumber, lookOf, rowOf, viewNumberOf}
 use Rattle.loikrasun.specs.Packed.{givenLine, givenView}
 

@@ -5,7 +5,7 @@ use Prim.Native.Nat.{ℕ}
 use Rattle.wire.specs.Line.{lineAt}
 use Rattle.wire.specs.Written.{writeLineOf}
 use Rattle.standing.specs.Calls.{openOf, takeOf, selectOf, backOf}
-use Rattle.tray.specs.Captions.{captionDecoder}
+use Rattle.replay.specs.Captions.{captionDecoder}
 use Rattle.desk.specs.Looks.{rowOf}
 use Rattle.loikrasun.specs.Packed.{packedOf, givenLine, Ended, ended, endedOf, Filled, filled, writtenOf, viewedOf}
 

@@ -7,7 +7,7 @@ ghost use mathlib.Core.Path.{_≡_};
 ghost use Rattle.wire.specs.Line.{lineAt};
 ghost use Rattle.wire.specs.Written.{writeLineOf};
 ghost use Rattle.standing.specs.Calls.{gives, openOf, takeOf, selectOf, backOf};
-ghost use Rattle.tray.specs.Captions.{captionDecoder};
+ghost use Rattle.replay.specs.Captions.{captionDecoder};
 ghost use Rattle.desk.specs.Numbers.{given};
 ghost use Rattle.desk.specs.Looks.{rowOf};
 ghost use Rattle.loikrasun.specs.Packed.{packedOf, givenWritten, givenLine, ended, endedOf, filled, writtenOf, viewedOf};

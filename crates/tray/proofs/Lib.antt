@@ -1,3 +1,2 @@
 -- The laws of `tray` that others cite.
 pub mod Laws
-mod LawsOfReplay

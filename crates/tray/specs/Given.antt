@@ -12,7 +12,7 @@ use Rattle.record.specs.Layout.{recordOf, readOf}
 use Rattle.valid.specs.Valid.{isValid}
 use Rattle.standing.specs.Acts.{actOf}
 use Rattle.standing.specs.Calls.{keepOf}
-use Rattle.tray.specs.Captions.{stepOf, countOf, captionDecoder}
+use Rattle.replay.specs.Captions.{stepOf, countOf, captionDecoder}
 
 -- a valid desk with room for an act, and a log and a tray of their lengths
 pub record Ready (d l t : List ℕ) : Type 0 where

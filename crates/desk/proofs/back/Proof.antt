@@ -12,7 +12,7 @@ use Rattle.valid.proofs.Laws.{isValid-sound}
 use Rattle.state.specs.declared.State.{State}
 use Rattle.valid.specs.Valid.{isValid}
 use Rattle.standing.proofs.Ways.{Sized, isSized-sizes}
-use Rattle.tray.specs.Captions.{captionDecoder}
+use Rattle.replay.specs.Captions.{captionDecoder}
 use Rattle.standing.specs.Calls.{Buffers, three, isFit}
 use Rattle.desk.proofs.back.Statement.{statement}
 use Rattle.desk.proofs.back.Tie as tie

@@ -7,12 +7,12 @@ use denote.Ref.{now}
 use borrow.Author.Needs.{needs}
 use Rattle.standing.proofs.Acts.{isFormed-allowed}
 use Rattle.standing.proofs.Ways.{give-unfit, give-invalid, give-full}
-use Rattle.tray.proofs.Laws.{actOf-pair}
+use Rattle.replay.proofs.Laws.{actOf-pair}
 use Rattle.standing.specs.Acts.{pair}
 use Rattle.state.specs.declared.State.{State}
 use Rattle.valid.specs.Valid.{isValid}
 use Rattle.standing.proofs.Ways.{Sized, isSized-sizes}
-use Rattle.tray.specs.Captions.{captionDecoder}
+use Rattle.replay.specs.Captions.{captionDecoder}
 use Rattle.standing.specs.Calls.{Buffers, three, isFit}
 use Rattle.desk.proofs.Laws.{given-call}
 use Rattle.desk.proofs.take.Statement.{statement}

@@ -18,8 +18,9 @@ use Rattle.standing.specs.Acts.{actOf, areFormed}
 use Rattle.standing.specs.Calls.{keepOf, replayOf}
 use Rattle.standing.proofs.Within.{logged-formed, logged-replayed}
 use Rattle.tray.specs.Given.{afterOf}
-use Rattle.tray.specs.Captions.{countOf, captionDecoder}
-use Rattle.tray.proofs.Laws.{step-acts, cells-of-record}
+use Rattle.replay.specs.Captions.{countOf, captionDecoder}
+use Rattle.replay.proofs.Laws.{step-acts}
+use Rattle.tray.proofs.Laws.{cells-of-record}
 use Rattle.tray.proofs.give.Statement.{statement}
 use Rattle.tray.proofs.give.Tie as tie
 

@@ -4,7 +4,7 @@ use Prim.Native.Nat.{_/_}
 use denote.Ref.{now}
 use borrow.Author.Needs.{needs}
 use Rattle.standing.proofs.Within.{isReplayable-of}
-use Rattle.tray.specs.Captions.{captionDecoder}
+use Rattle.replay.specs.Captions.{captionDecoder}
 use Rattle.tray.proofs.is_replayable.Statement.{statement}
 use Rattle.tray.proofs.is_replayable.Tie as tie
 

@@ -7,8 +7,8 @@ use borrow.Author.Needs.{needs}
 use Rattle.standing.proofs.Within.{start-fresh, start-slot, isStart-of, isStart-fresh}
 use Rattle.standing.specs.Calls.{isStart}
 use Rattle.state.specs.declared.State.{State}
-use Rattle.tray.specs.Captions.{captionDecoder}
-use Rattle.tray.proofs.Laws.{captionDecoder-lawful}
+use Rattle.replay.specs.Captions.{captionDecoder}
+use Rattle.replay.proofs.Laws.{captionDecoder-lawful}
 use Rattle.tray.proofs.is_start.Statement.{statement}
 use Rattle.tray.proofs.is_start.Tie as tie
 

@@ -9,7 +9,7 @@ use Rattle.record.proofs.Laws.{length-recordOf}
 use Rattle.record.specs.Layout.{recordOf}
 use Rattle.state.specs.State.{desk}
 use Rattle.facts.proofs.Over.{part-over}
-use Rattle.tray.specs.Captions.{captionDecoder}
+use Rattle.replay.specs.Captions.{captionDecoder}
 use Rattle.tray.proofs.keep.Statement.{statement}
 use Rattle.tray.proofs.keep.Tie as tie
 

@@ -10,7 +10,7 @@ use Rattle.standing.specs.Calls.{startOf, replayOf}
 use Rattle.state.specs.declared.State.{State}
 use Rattle.valid.specs.Valid.{isValid}
 use Rattle.record.specs.Layout.{readOf, recordOf}
-use Rattle.tray.specs.Captions.{countOf, captionDecoder}
+use Rattle.replay.specs.Captions.{countOf, captionDecoder}
 use Rattle.tray.proofs.restore.Statement.{statement}
 use Rattle.tray.proofs.restore.Tie as tie
 

@@ -7,7 +7,7 @@ use borrow.Rule.Slice.PartMut.{mid-len}
 use borrow.Author.Needs.{needs}
 use Rattle.facts.proofs.Over.{over-all}
 use Rattle.standing.proofs.Within.{start-fresh, start-slot}
-use Rattle.tray.specs.Captions.{captionDecoder}
+use Rattle.replay.specs.Captions.{captionDecoder}
 use Rattle.tray.proofs.write_start.Statement.{statement}
 use Rattle.tray.proofs.write_start.Tie as tie
 

@@ -16,9 +16,9 @@ use Rattle.decode.specs.Typed.{isText, typedOf}
 use Rattle.standing.specs.Acts.{actOf, atAct}
 use Rattle.standing.specs.Calls.{replayOf}
 use Rattle.standing.proofs.Within.{replay-more}
-use Rattle.tray.specs.Captions.{stepOf, captionDecoder}
-use Rattle.tray.specs.Text.{isTextAct}
-use Rattle.tray.proofs.Laws.{actOf-pair}
+use Rattle.replay.specs.Captions.{stepOf, captionDecoder}
+use Rattle.replay.specs.Text.{isTextAct}
+use Rattle.replay.proofs.Laws.{actOf-pair}
 
 module _ (d : Desk) (l : List ℕ) (from : ℕ) where
   abbrev replayed : ℕ → Desk

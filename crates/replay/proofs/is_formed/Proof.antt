@@ -1,8 +1,8 @@
 -- `is_formed` meets its contract. Assumes nothing.
 use borrow.Author.Needs.{needs}
-use Rattle.tray.proofs.Laws.{isFormed-pair, isFormed-other}
-use Rattle.tray.proofs.is_formed.Statement.{statement}
-use Rattle.tray.proofs.is_formed.Tie as tie
+use Rattle.replay.proofs.Laws.{isFormed-pair, isFormed-other}
+use Rattle.replay.proofs.is_formed.Statement.{statement}
+use Rattle.replay.proofs.is_formed.Tie as tie
 
 returns : tie.Need-returns
 returns c = let a = c .before .args in isFormed-pair (a .kind) (a .first) (a .second) (c .if1 .taken)

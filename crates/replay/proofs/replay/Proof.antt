@@ -11,11 +11,11 @@ use Rattle.standing.specs.Calls.{replayOf}
 use Rattle.decode.specs.Sound.{SoundDesk}
 use Rattle.state.specs.declared.State.{State}
 use Rattle.state.specs.State.{Desk, desk}
-use Rattle.tray.specs.Captions.{captionDecoder}
-use Rattle.tray.proofs.Laws.{captionDecoder-lawful}
-use Rattle.tray.proofs.LawsOfReplay.{replay-join}
-use Rattle.tray.proofs.replay.Statement.{statement}
-use Rattle.tray.proofs.replay.Tie as tie
+use Rattle.replay.specs.Captions.{captionDecoder}
+use Rattle.replay.proofs.Laws.{captionDecoder-lawful}
+use Rattle.replay.proofs.LawsOfReplay.{replay-join}
+use Rattle.replay.proofs.replay.Statement.{statement}
+use Rattle.replay.proofs.replay.Tie as tie
 
 abbrev Inv-loop : tie.InvT-loop
 Inv-loop cells₀ log from count state₀ n₀ cells state n =

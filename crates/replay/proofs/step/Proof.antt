@@ -3,10 +3,10 @@ use mathlib.Core.Path.{ap, _∙_}
 use denote.Ref.{now}
 use borrow.Author.Needs.{needs}
 use Rattle.state.specs.State.{desk}
-use Rattle.tray.specs.Captions.{stepOf}
-use Rattle.tray.proofs.Laws.{actOf-pair, actOf-select}
-use Rattle.tray.proofs.step.Statement.{statement}
-use Rattle.tray.proofs.step.Tie as tie
+use Rattle.replay.specs.Captions.{stepOf}
+use Rattle.replay.proofs.Laws.{actOf-pair, actOf-select}
+use Rattle.replay.proofs.step.Statement.{statement}
+use Rattle.replay.proofs.step.Tie as tie
 
 returns : tie.Need-returns
 returns c =

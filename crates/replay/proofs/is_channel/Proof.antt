@@ -1,7 +1,7 @@
 -- `is_channel` meets its contract. Assumes nothing.
-use Rattle.tray.proofs.Laws.{isChannel-is}
-use Rattle.tray.proofs.is_channel.Statement.{statement}
-use Rattle.tray.proofs.is_channel.Tie as tie
+use Rattle.replay.proofs.Laws.{isChannel-is}
+use Rattle.replay.proofs.is_channel.Statement.{statement}
+use Rattle.replay.proofs.is_channel.Tie as tie
 
 returns : tie.Need-returns
 returns c = isChannel-is (c .args .channel)

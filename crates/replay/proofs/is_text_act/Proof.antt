@@ -7,8 +7,8 @@ use lib.ListN.{getD}
 use denote.Ref.{now}
 use borrow.Author.Tests.{lt-ltb, le-ltb}
 use borrow.Author.Needs.{needs}
-use Rattle.tray.proofs.is_text_act.Statement.{statement}
-use Rattle.tray.proofs.is_text_act.Tie as tie
+use Rattle.replay.proofs.is_text_act.Statement.{statement}
+use Rattle.replay.proofs.is_text_act.Tie as tie
 
 returns : tie.Need-returns
 returns c =

@@ -8,9 +8,9 @@ use borrow.Author.Tests.{not-true, not-false}
 use borrow.Author.Needs.{needs}
 use Rattle.standing.proofs.Within.{areFormed-none, areFormed-more}
 use Rattle.standing.specs.Acts.{areFormed}
-use Rattle.tray.proofs.Laws.{areFormed-broken}
-use Rattle.tray.proofs.are_formed.Statement.{statement}
-use Rattle.tray.proofs.are_formed.Tie as tie
+use Rattle.replay.proofs.Laws.{areFormed-broken}
+use Rattle.replay.proofs.are_formed.Statement.{statement}
+use Rattle.replay.proofs.are_formed.Tie as tie
 
 abbrev Inv-loop : tie.InvT-loop
 Inv-loop log from count n₀ n = (n ≤ count) × (true ≡ areFormed log from n)

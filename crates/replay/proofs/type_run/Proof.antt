@@ -15,10 +15,10 @@ use Rattle.decode.specs.Typed.{isText, typedOf}
 use Rattle.decode.proofs.LawsOfTyped.{typedOf-none}
 use Rattle.standing.specs.Calls.{replayOf}
 use Rattle.standing.proofs.Within.{replay-none}
-use Rattle.tray.specs.Captions.{captionDecoder}
-use Rattle.tray.proofs.LawsOfReplay.{run-typed, isTextAct-at}
-use Rattle.tray.proofs.type_run.Statement.{statement}
-use Rattle.tray.proofs.type_run.Tie as tie
+use Rattle.replay.specs.Captions.{captionDecoder}
+use Rattle.replay.proofs.LawsOfReplay.{run-typed, isTextAct-at}
+use Rattle.replay.proofs.type_run.Statement.{statement}
+use Rattle.replay.proofs.type_run.Tie as tie
 
 abbrev Inv-loop : tie.InvT-loop
 Inv-loop start cells₀ log from count end cursor₀ n₀ cells cursor n =

@@ -1,0 +1,3 @@
+-- The laws of `replay` that others cite.
+pub mod Laws
+mod LawsOfReplay
