@@ -1,3 +1,2 @@
 -- The laws of `decode` that others cite.
 pub mod Laws
-pub mod LawsOfTyped

@@ -1,20 +1,15 @@
 // The decoder: the pair rules over a state by value and lent cells, and the two acts of a desk.
-// A pair of two characters goes straight to `typing::write_two`, and where pairs of text stand in a row each goes to the style's cursor
-// alone (`type_text`); only control pairs go through the dispatcher of codes.
-use cell::Cursor;
+// A pair of two characters goes straight to `typing::write_two`; only control pairs go through the dispatcher of codes.
 use codes::Code;
 use state::State;
 ghost use mathlib.Core.Path.{_≡_};
-ghost use mathlib.Core.Bool.{true};
-ghost use Prim.Native.Nat.{ℕ, _+_, _≤_, _<_};
+ghost use Prim.Native.Nat.{_≤_, _<_};
 ghost use lib.ListN.{length};
-ghost use Rattle.cell.specs.Cursor.{Placed};
 ghost use Rattle.codes.specs.Codes.{codeOf};
 ghost use Rattle.state.specs.State.{captions, desk};
-ghost use Rattle.state.specs.Ranges.{Ranged, Sound};
+ghost use Rattle.state.specs.Ranges.{Sound};
 ghost use Rattle.decode.specs.Pair.{told, isOpen, typeAnyOf, textCodeOf, isDamagedRepeat, controlOf, ruleThreeOf, pairOf};
 ghost use Rattle.decode.specs.Step.{takenOf, selectOf};
-ghost use Rattle.decode.specs.Typed.{isNoneExpected, isText, typedOf};
 
 // No pair is expected any more.
 fn cleared(mut state: State) -> State
@@ -26,7 +21,7 @@ fn cleared(mut state: State) -> State
 }
 
 // The code that a byte writes as text, 0 where it writes none.
-fn text_code(y: u8) -> u8
+pub fn text_code(y: u8) -> u8
     ensures { λ r. ⌜ r ≡ textCodeOf y ⌝ }
 {
     let b = wire::low_seven(y);
@@ -35,7 +30,7 @@ fn text_code(y: u8) -> u8
 }
 
 // The one gate for writing: the stream's channel is the selected one, a style is set, and Text is off.
-fn is_open(state: State) -> bool
+pub fn is_open(state: State) -> bool
     ensures { λ r. ⌜ r ≡ isOpen state ⌝ }
 {
     let mode = state.mode;
@@ -119,53 +114,6 @@ pub fn pair(state: State, cells: &mut [u8], x: u8, y: u8) -> State
         return open;
     }
     type_both(open, cells, 0x7f, text_code(y))
-}
-
-// Whether no pair is expected.
-pub fn is_none_expected(state: State) -> bool
-    ensures { λ r. ⌜ r ≡ isNoneExpected state ⌝ }
-{
-    (state.first == 0) & (state.second == 0)
-}
-
-// Whether a pair with this first byte is text. A bad one with a from 10h to 1Fh is left out, so that no bits are counted.
-pub fn is_text(x: u8) -> bool
-    ensures { λ r. ⌜ r ≡ isText x ⌝ }
-{
-    let a = wire::low_seven(x);
-    (a < 0x10) | (0x20 <= a)
-}
-
-// A pair of text while none is expected, with the style's cursor in hand: the cursor behind it. Of the state nothing else changes but the
-// count. The second byte is looked at once the first is written, which takes fewer registers.
-pub fn type_text(start: State, cells: &mut [u8], at: Cursor, x: u8, y: u8) -> Cursor
-    requires { ⌜ Ranged (start .mode) × (length (now cells) ≡ 1920) × Placed at × (isText x ≡ true) ⌝ }
-    ensures { λ r. ⌜ Placed r × ((n : ℕ) → desk (typedOf start r (n + 1)) (now (cells .exit)) ≡ takenOf (desk (typedOf start at n) (now (cells .entry))) x y) ⌝ }
-{
-    if is_open(start) {
-        let mode = start.mode;
-        let memory = mode.memory();
-        let between = typing::put(cells, memory, at, text_code(x));
-        return typing::put(cells, memory, between, text_code(y));
-    }
-    at
-}
-
-// The state behind n pairs of text that have left the style's cursor there.
-pub fn typed(start: State, cursor: Cursor, n: u16) -> State
-    requires { ⌜ start .acts + n < 65536 ⌝ }
-    ensures { λ r. ⌜ r ≡ typedOf start cursor n ⌝ }
-{
-    let mode = start.mode;
-    let next = mode.with_cursor(cursor);
-    State {
-        acts: start.acts + n,
-        selected: start.selected,
-        stream: start.stream,
-        first: 0,
-        second: 0,
-        mode: next,
-    }
 }
 
 // A pair as an act: it counts.

@@ -12,7 +12,7 @@ use Rattle.cell.specs.declared.Cursor.{Cursor}
 use Rattle.state.specs.declared.State.{State}
 use Rattle.state.specs.State.{Desk, desk}
 use Rattle.decode.specs.Step.{takenOf}
-use Rattle.decode.specs.Typed.{isText, typedOf}
+use Rattle.text.specs.Typed.{isText, typedOf}
 use Rattle.standing.specs.Acts.{actOf, atAct}
 use Rattle.standing.specs.Calls.{replayOf}
 use Rattle.standing.proofs.Within.{replay-more}

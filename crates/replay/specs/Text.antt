@@ -4,7 +4,7 @@
 use Prim.Native.Nat.{ℕ}
 use mathlib.Core.Bool.{Bool, _&&_}
 use lib.Dec.{eqb}
-use Rattle.decode.specs.Typed.{isText}
+use Rattle.text.specs.Typed.{isText}
 
 -- by the act's three bytes; the third has no say
 abbrev pub isTextAct : ℕ → ℕ → ℕ → Bool

@@ -7,7 +7,7 @@ ghost use lib.Dec.{ltb};
 ghost use lib.ListN.{length};
 ghost use Rattle.state.specs.State.{desk};
 ghost use Rattle.decode.specs.Sound.{SoundDesk};
-ghost use Rattle.decode.specs.Typed.{isNoneExpected};
+ghost use Rattle.text.specs.Typed.{isNoneExpected};
 ghost use Rattle.standing.specs.Acts.{isChannel, isFormed, actOf, atAct, areFormed};
 ghost use Rattle.standing.specs.Calls.{replayOf};
 ghost use Rattle.replay.specs.Captions.{stepOf, captionDecoder};
@@ -64,7 +64,7 @@ fn is_text_act(log: &[u8], n: usize, end: usize) -> bool
 {
     if n < end {
         let at = n * 3;
-        return (log[at] == 1) & decode::is_text(log[at + 1]);
+        return (log[at] == 1) & text::is_text(log[at + 1]);
     }
     false
 }
@@ -82,10 +82,10 @@ fn type_run(start: State, cells: &mut [u8], log: &[u8], from: usize, count: usiz
     let mut n: usize = 0;
     while is_text_act(log, from + n, end) {
         let at = (from + n) * 3;
-        cursor = decode::type_text(start, cells, cursor, log[at + 1], log[at + 2]);
+        cursor = text::type_text(start, cells, cursor, log[at + 1], log[at + 2]);
         n += 1;
     }
-    decode::typed(start, cursor, n as u16)
+    text::typed(start, cursor, n as u16)
 }
 
 // `count` acts of the log behind the first `from`, one after the other. Where no pair is expected, text goes on in a run.
@@ -99,7 +99,7 @@ pub fn replay(start: State, cells: &mut [u8], log: &[u8], from: usize, count: us
         let at = (from + n) * 3;
         state = step(state, cells, log[at], log[at + 1], log[at + 2]);
         n += 1;
-        if decode::is_none_expected(state) {
+        if text::is_none_expected(state) {
             let acts = state.acts;
             state = type_run(state, cells, log, from + n, count - n);
             n += (state.acts - acts) as usize;

@@ -11,8 +11,8 @@ use Rattle.cell.specs.declared.Cursor.{Cursor}
 use Rattle.cell.specs.Cursor.{Placed}
 use Rattle.state.specs.declared.State.{State}
 use Rattle.state.specs.State.{desk}
-use Rattle.decode.specs.Typed.{isText, typedOf}
-use Rattle.decode.proofs.LawsOfTyped.{typedOf-none}
+use Rattle.text.specs.Typed.{isText, typedOf}
+use Rattle.text.proofs.Laws.{typedOf-none}
 use Rattle.standing.specs.Calls.{replayOf}
 use Rattle.standing.proofs.Within.{replay-none}
 use Rattle.replay.specs.Captions.{captionDecoder}

@@ -4,8 +4,8 @@ use Prim.Native.Nat.{_+_}
 use borrow.Author.Needs.{needs}
 use Rattle.state.specs.declared.Mode.{Mode}
 use Rattle.state.specs.State.{state}
-use Rattle.decode.proofs.typed.Statement.{statement}
-use Rattle.decode.proofs.typed.Tie as tie
+use Rattle.text.proofs.typed.Statement.{statement}
+use Rattle.text.proofs.typed.Tie as tie
 
 returns : tie.Need-returns
 returns c =

@@ -4,9 +4,9 @@ use mathlib.Core.Bool.{_||_}
 use Prim.Native.Nat.{ℕ}
 use lib.Dec.{leb, ltb}
 use borrow.Author.Needs.{needs}
-use Rattle.decode.specs.Typed.{isText}
-use Rattle.decode.proofs.is_text.Statement.{statement}
-use Rattle.decode.proofs.is_text.Tie as tie
+use Rattle.text.specs.Typed.{isText}
+use Rattle.text.proofs.is_text.Statement.{statement}
+use Rattle.text.proofs.is_text.Tie as tie
 
 returns : tie.Need-returns
 unfolding isText

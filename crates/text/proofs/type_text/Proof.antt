@@ -9,10 +9,10 @@ use Rattle.cell.specs.Cursor.{Placed}
 use Rattle.state.specs.State.{desk}
 use Rattle.typing.specs.Typing.{passedOf, putOf}
 use Rattle.typing.proofs.Laws.{passedOf-keeps-placed, length-putOf}
-use Rattle.decode.specs.Typed.{typedOf}
-use Rattle.decode.proofs.LawsOfTyped.{text-typed, text-shut}
-use Rattle.decode.proofs.type_text.Statement.{statement}
-use Rattle.decode.proofs.type_text.Tie as tie
+use Rattle.text.specs.Typed.{typedOf}
+use Rattle.text.proofs.Laws.{text-typed, text-shut}
+use Rattle.text.proofs.type_text.Statement.{statement}
+use Rattle.text.proofs.type_text.Tie as tie
 
 put-requires-2 : tie.Need-put-requires-2
 put-requires-2 c κs =

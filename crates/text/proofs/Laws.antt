@@ -18,10 +18,10 @@ use Rattle.state.specs.Style.{cursorOf, memoryOf, withCursor}
 use Rattle.state.proofs.Laws.{withCursor-own, isReady-withCursor}
 use Rattle.typing.specs.Typing.{writeAnyOf, passedOf, putOf}
 use Rattle.typing.proofs.Laws.{writeAnyOf-at}
 use Rattle.decode.specs.Pair.{withCaptions, clearedOf, isOpen, textCodeOf, typeAnyOf, ruleOneOf, ruleTwoOf, ruleThreeOf, ruleFourOf, pairOf}
 use Rattle.decode.specs.Step.{counted, takenOf}
-use Rattle.decode.specs.Typed.{isNoneExpected, isText, typedOf}
+use Rattle.text.specs.Typed.{isNoneExpected, isText, typedOf}
 use Rattle.decode.proofs.Laws.{isOpen-live, none-then-text, code-then-text, open-both, shut-both}
 
 -- rules 1, 2 and 4: the first byte is text, and so is the second
 pub text-pair : (d : Desk) (x y : ℕ) → isText x ≡ true → d .state .first ≡ 0 → pairOf d x y ≡ typeAnyOf (typeAnyOf (clearedOf d) (textCodeOf x)) (textCodeOf y)

@@ -1,0 +1,2 @@
+-- The laws of `text` that others cite.
+pub mod Laws

@@ -1,0 +1,2 @@
+-- The definitions of `text`: pairs of text in a row.
+pub mod Typed
