@@ -24,8 +24,8 @@ pub fn open(desk: &mut [u8], log: &mut [u8], tray: &mut [u8]) -> Answer
     ensures { λ r. ⌜ outcome (given r) (now (desk .exit)) (now (log .exit)) (now (tray .exit))
         ≡ openOf captionDecoder (now (desk .entry)) (now (log .entry)) (now (tray .entry)) ⌝ }
 {
-    if tray::is_sized(desk.len(), log.len(), tray.len()) {
-        tray::write_fresh(desk);
+    if slots::is_sized(desk.len(), log.len(), tray.len()) {
+        slots::write_fresh(desk);
         facts::blank(log);
         facts::blank(tray);
         return Answer::Done(0);
@@ -38,7 +38,7 @@ pub fn take(desk: &mut [u8], log: &mut [u8], tray: &mut [u8], first: u8, second:
     ensures { λ r. ⌜ outcome (given r) (now (desk .exit)) (now (log .exit)) (now (tray .exit))
         ≡ takeOf captionDecoder (now (desk .entry)) (now (log .entry)) (now (tray .entry)) first second ⌝ }
 {
-    if tray::is_sized(desk.len(), log.len(), tray.len()) {
+    if slots::is_sized(desk.len(), log.len(), tray.len()) {
         if valid::is_valid(desk) {
             let state = record::read_state(desk);
             let acts = state.acts;
@@ -57,7 +57,7 @@ pub fn select(desk: &mut [u8], log: &mut [u8], tray: &mut [u8], channel: u8) -> 
     ensures { λ r. ⌜ outcome (given r) (now (desk .exit)) (now (log .exit)) (now (tray .exit))
         ≡ selectOf captionDecoder (now (desk .entry)) (now (log .entry)) (now (tray .entry)) channel ⌝ }
 {
-    if tray::is_sized(desk.len(), log.len(), tray.len()) {
+    if slots::is_sized(desk.len(), log.len(), tray.len()) {
         if valid::is_valid(desk) {
             if replay::is_channel(channel) {
                 let state = record::read_state(desk);
@@ -79,7 +79,7 @@ pub fn back(desk: &mut [u8], log: &mut [u8], tray: &mut [u8], k: u32) -> Answer
     ensures { λ r. ⌜ outcome (given r) (now (desk .exit)) (now (log .exit)) (now (tray .exit))
         ≡ backOf captionDecoder (now (desk .entry)) (now (log .entry)) (now (tray .entry)) k ⌝ }
 {
-    if tray::is_sized(desk.len(), log.len(), tray.len()) {
+    if slots::is_sized(desk.len(), log.len(), tray.len()) {
         if valid::is_valid(desk) {
             let state = record::read_state(desk);
             let acts = state.acts as u32;

@@ -1,30 +1,14 @@
--- Lengths, the fresh record and a record in place, as the code makes them. Assumes nothing.
-use mathlib.Core.Path.{_≡_, refl, ap, _∙_}
-use mathlib.Core.Bool.{_&&_}
+-- A record in place: its cells and its head, lent one after the other. Assumes nothing.
+use mathlib.Core.Path.{_≡_, ap, _∙_}
 use mathlib.Core.List.{List, _++_}
 use Prim.Native.Nat.{ℕ}
-use lib.Dec.{eqb}
-use lib.ListN.{length, take, drop, replicate}
+use lib.ListN.{length, take, drop}
 use lib.Seq.{drop-at}
 use borrow.Rule.Slice.PartMut.{putMid}
-use Rattle.facts.specs.Over.{over}
 use Rattle.state.specs.declared.State.{State}
-use Rattle.state.specs.State.{Desk, desk, freshOf}
-use Rattle.decode.specs.Step.{freshDesk}
+use Rattle.state.specs.State.{Desk, desk}
 use Rattle.record.specs.Layout.{headOf, recordOf}
 use Rattle.record.proofs.Laws.{length-headOf, in-place, lent-cells}
-use Rattle.standing.specs.Calls.{isSized}
-use Rattle.replay.specs.Captions.{captionDecoder}
-
--- the three lengths are those that the theory asks
-pub isSized-is : (d l t : ℕ) → (eqb d 1984 && (eqb l 48000 && eqb t 31744)) ≡ isSized captionDecoder d l t
-unfolding isSized
-isSized-is d l t = refl
-
--- the fresh record: the fresh state's head over zeros
-pub over-fresh : over (replicate 1984 0) 0 (headOf (freshOf 1)) ≡ recordOf freshDesk
-unfolding headOf freshDesk
-over-fresh = refl
 
 -- Cells and head of a record in place, each lent and come back: the record of the desk that they are.
 pub recordOf-in-place : (bs cells head : List ℕ) (s : State) {e : Desk} → length bs ≡ 1984 → length cells ≡ 1920 → head ≡ headOf s → desk s cells ≡ e

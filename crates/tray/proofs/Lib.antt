@@ -1,2 +1,2 @@
--- The laws of `tray` that others cite.
-pub mod Laws
+-- The laws of `tray`.
+mod Laws

@@ -1,7 +1,7 @@
 -- `is_sized` meets its contract. Assumes nothing.
-use Rattle.tray.proofs.Laws.{isSized-is}
-use Rattle.tray.proofs.is_sized.Statement.{statement}
-use Rattle.tray.proofs.is_sized.Tie as tie
+use Rattle.slots.proofs.Laws.{isSized-is}
+use Rattle.slots.proofs.is_sized.Statement.{statement}
+use Rattle.slots.proofs.is_sized.Tie as tie
 
 returns : tie.Need-returns
 returns c = let a = c .args in isSized-is (a .desk) (a .log) (a .tray)

@@ -10,8 +10,8 @@ use Rattle.record.specs.Layout.{recordOf}
 use Rattle.state.specs.State.{desk}
 use Rattle.facts.proofs.Over.{part-over}
 use Rattle.replay.specs.Captions.{captionDecoder}
-use Rattle.tray.proofs.keep.Statement.{statement}
-use Rattle.tray.proofs.keep.Tie as tie
+use Rattle.slots.proofs.keep.Statement.{statement}
+use Rattle.slots.proofs.keep.Tie as tie
 
 returns : tie.Need-returns
 returns c =

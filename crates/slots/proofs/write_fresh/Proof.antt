@@ -10,9 +10,9 @@ use Rattle.record.specs.Layout.{headOf}
 use Rattle.state.specs.State.{freshOf}
 use Rattle.facts.proofs.Over.{part-over}
 use Rattle.facts.specs.Over.{over}
-use Rattle.tray.proofs.Laws.{over-fresh}
-use Rattle.tray.proofs.write_fresh.Statement.{statement}
-use Rattle.tray.proofs.write_fresh.Tie as tie
+use Rattle.slots.proofs.Laws.{over-fresh}
+use Rattle.slots.proofs.write_fresh.Statement.{statement}
+use Rattle.slots.proofs.write_fresh.Tie as tie
 
 returns : tie.Need-returns
 returns c =

@@ -9,8 +9,8 @@ use Rattle.standing.specs.Calls.{isStart}
 use Rattle.state.specs.declared.State.{State}
 use Rattle.replay.specs.Captions.{captionDecoder}
 use Rattle.replay.proofs.Laws.{captionDecoder-lawful}
-use Rattle.tray.proofs.is_start.Statement.{statement}
-use Rattle.tray.proofs.is_start.Tie as tie
+use Rattle.slots.proofs.is_start.Statement.{statement}
+use Rattle.slots.proofs.is_start.Tie as tie
 
 returns : tie.Need-returns
 returns c =

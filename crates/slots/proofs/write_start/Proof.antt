@@ -8,8 +8,8 @@ use borrow.Author.Needs.{needs}
 use Rattle.facts.proofs.Over.{over-all}
 use Rattle.standing.proofs.Within.{start-fresh, start-slot}
 use Rattle.replay.specs.Captions.{captionDecoder}
-use Rattle.tray.proofs.write_start.Statement.{statement}
-use Rattle.tray.proofs.write_start.Tie as tie
+use Rattle.slots.proofs.write_start.Statement.{statement}
+use Rattle.slots.proofs.write_start.Tie as tie
 
 returns : tie.Need-returns
 returns c =

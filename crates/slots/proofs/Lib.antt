@@ -1,0 +1,2 @@
+-- The laws of `slots`.
+mod Laws
