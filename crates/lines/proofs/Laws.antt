@@ -2,7 +2,7 @@
 use mathlib.Core.Path.{_≡_, refl, ap, sym, _∙_}
 use mathlib.Core.Bool.{true}
 use mathlib.Core.List.{List, [], _∷_, _++_}
-use Prim.Native.Nat.{ℕ, zero, suc, _+_, _*_, _≤_}
+use Prim.Native.Nat.{ℕ, zero, suc, _+_, _*_, _<_, _≤_}
 use native.Mathlib.Nat.{suc-add, zero-add}
 use native.Mathlib.Omega.{arith}
 use lib.ListN.{length, getD, length-append}
@@ -59,20 +59,21 @@ pub length-refusedOf : (frame number : ℕ) → length (refusedOf frame number) 
 unfolding refusedOf frameOf
 length-refusedOf frame number = refl
 
--- A screen that is all empty prints nothing.
+-- Rows that are all empty print nothing, and so does a screen.
 
-module _ (r : Run) (empty : isEmptyOf (r .screen) displayed ≡ true) where
-  row-none : (row : ℕ) → 1 ≤ row → row ≤ 15 → rowLineOf r row ≡ []
+module _ (r : Run) where
+  row-none : (n : ℕ) → ((i : ℕ) → i < (n + 1) * 64 → getD (r .screen) i 0 ≡ 0) → rowLineOf r (n + 1) ≡ []
   unfolding rowLineOf
-  row-none row low high =
-      let at = rowAt displayed (rowNumber row) in
-      let e = endOf-none (r .screen) at 32 (λ k h. ap (λ (i : ℕ). getD (r .screen) i 0) (sym (zero-add (at + k * 2))) ∙ isEmptyOf-at (r .screen) displayed (at + k * 2) empty (omega arith)) in
+  row-none n empty =
+      let at = rowAt displayed (rowNumber (n + 1)) in
+      let e = endOf-none (r .screen) at 32 (λ k h. empty (at + k * 2) (omega arith)) in
       simp (eq-eqb _ _ e)
 
-  top-none : (n : ℕ) → n ≤ 15 → topLinesOf r n ≡ []
+  pub topLinesOf-none : (n : ℕ) → ((i : ℕ) → i < n * 64 → getD (r .screen) i 0 ≡ 0) → topLinesOf r n ≡ []
   unfolding topLinesOf
-  top-none zero h = refl
-  top-none (suc n) h = (λ i. top-none n (omega arith) i ++ row-none (n + 1) (omega arith) (omega arith) i)
+  topLinesOf-none zero empty = refl
+  topLinesOf-none (suc n) empty = λ i. topLinesOf-none n (λ k h. empty k (omega arith)) i ++ row-none n (λ k h. empty k (omega arith)) i
 
-  pub linesOf-empty : linesOf r ≡ []
-  linesOf-empty = top-none 15 (omega arith)
+  pub linesOf-empty : isEmptyOf (r .screen) displayed ≡ true → linesOf r ≡ []
+  linesOf-empty e =
+      topLinesOf-none 15 (λ i h. ap (λ (k : ℕ). getD (r .screen) k 0) (sym (zero-add i)) ∙ isEmptyOf-at (r .screen) displayed i e (omega arith))

@@ -1,7 +1,11 @@
 -- The registers of small reels by computation: the paper's own, an empty one, one with a bad third line, one with an unfinished last line. Assumes nothing.
-use mathlib.Core.Path.{_≡_, refl}
+use mathlib.Core.Path.{_≡_, refl, ap, _∙_}
 use mathlib.Core.List.{List, [], _∷_, _++_}
 use Prim.Native.Nat.{ℕ, _+_, _/_, _%_}
+use native.Mathlib.Omega.{arith}
+use lib.ListN.{length, getD-replicate}
+use Rattle.facts.specs.Over.{over}
+use Rattle.facts.proofs.Over.{before-over}
 use Rattle.wire.specs.Byte.{isGood, lowSeven}
 use Rattle.wire.specs.Line.{digitOf, hexOf, judgeOf, lineAt, lineOf}
 use Rattle.cell.specs.Pen.{packOf, unpackOf, afterMidRow, ofPreamble, flashing}
@@ -20,9 +24,10 @@ use Rattle.decode.specs.Pair.{clearedOf, typeOf, asTextOf, ruleOneOf, ruleTwoOf
 use Rattle.decode.specs.Play.{displayedOf}
 use Rattle.decode.specs.Step.{freshDesk}
 use Rattle.lines.specs.Span.{leadMoreOf, endMoreOf, leadOf, endOf}
-use Rattle.lines.specs.Line.{header, digitOf as decimalOf, frameOf, rowOf, headOf, codesOf, lineOf as rowTextOf, rowLineOf, topLinesOf, refusedOf}
+use Rattle.lines.specs.Line.{header, Run, run, linesOf, digitOf as decimalOf, frameOf, rowOf, headOf, codesOf, lineOf as rowTextOf, rowLineOf, topLinesOf, refusedOf}
+use Rattle.lines.proofs.Laws.{topLinesOf-none}
 use Rattle.runs.specs.Frames.{screensFrom, framesOf}
-use Rattle.runs.specs.Runs.{stretchesFrom, runsOf}
+use Rattle.runs.specs.Runs.{emptyScreen, stretchesFrom, runsOf}
 use Rattle.runs.specs.Register.{textOf, refusalOf, registerOf}
 
 -- pairs, "one a line"
@@ -57,6 +62,21 @@ hi = 0x34 ∷ 0x38 ∷ 0x34 ∷ 0x39 ∷ []
 abbrev pub letter : List ℕ
 letter = 0x34 ∷ 0x31 ∷ []
 
+-- P2, "The reel 9420 9420 9470 9470 C849 942F 942F 8080 8080 942C 942C"
+abbrev pub loaded : List ℕ
+loaded = reel (0x9420 ∷ 0x9420 ∷ 0x9470 ∷ 0x9470 ∷ 0xc849 ∷ 0x942f ∷ 0x942f ∷ 0x8080 ∷ 0x8080 ∷ 0x942c ∷ 0x942c ∷ [])
+
+-- a bad third line, in lower case, and an unfinished one
+abbrev pub bad : List ℕ
+bad = shown ++ (0x63 ∷ 0x38 ∷ 0x34 ∷ 0x39 ∷ 0x0a ∷ [])
+
+abbrev pub unfinished : List ℕ
+unfinished = shown ++ (0x39 ∷ 0x34 ∷ [])
+
+-- painted white, and over it painted green
+abbrev pub painted : List ℕ
+painted = reel (0x9429 ∷ 0xc180 ∷ 0x9462 ∷ 0xc180 ∷ [])
+
 -- each reel with its register
 abbrev pub Registers : List (List ℕ × List ℕ) → Type 0
 Registers [] = Unit
@@ -64,18 +84,81 @@ Registers (r ∷ rs) = (registerOf (r .0) ≡ header ++ r .1) × Registers rs
 
 abbrev pub small : List (List ℕ × List ℕ)
 small =
-    -- P2, "The reel 9420 9420 9470 9470 C849 942F 942F 8080 8080 942C 942C": loaded from frame 1 on, it stands from frame 6 on
-    (reel (0x9420 ∷ 0x9420 ∷ 0x9470 ∷ 0x9470 ∷ 0xc849 ∷ 0x942f ∷ 0x942f ∷ 0x8080 ∷ 0x8080 ∷ 0x942c ∷ 0x942c ∷ []), lines ((6, 9, hi) ∷ []))
+    -- loaded from frame 1 on, it stands from frame 6 on
+    (loaded, lines ((6, 9, hi) ∷ []))
     -- "Empty input prints the header alone."
     ∷ ([], [])
-    -- a bad third line, in lower case
-    ∷ (shown ++ (0x63 ∷ 0x38 ∷ 0x34 ∷ 0x39 ∷ 0x0a ∷ []), lines ((2, 2, hi) ∷ []) ++ refused)
-    -- an unfinished third line
-    ∷ (shown ++ (0x39 ∷ 0x34 ∷ []), lines ((2, 2, hi) ∷ []) ++ refused)
-    -- painted white, and over it painted green: pens count, so there are two runs
-    ∷ (reel (0x9429 ∷ 0xc180 ∷ 0x9462 ∷ 0xc180 ∷ []), lines ((2, 3, letter) ∷ (4, 4, letter) ∷ []))
+    ∷ (bad, lines ((2, 2, hi) ∷ []) ++ refused)
+    ∷ (unfinished, lines ((2, 2, hi) ∷ []) ++ refused)
+    -- pens count, so there are two runs
+    ∷ (painted, lines ((2, 3, letter) ∷ (4, 4, letter) ∷ []))
     ∷ []
 
+-- Each is computed in parts: its frames, their runs, and the lines of these. Only the bottom row has any; that the rows above have none is cited, since
+-- to compute it takes longer than all the rest.
+
+-- a screen whose bottom row starts with these cells, and nothing else
+abbrev bottom : List ℕ → List ℕ
+bottom cells = over emptyScreen 896 cells
+
+bottom-lines : (cells : List ℕ) (from to : ℕ) → linesOf (run from to (bottom cells)) ≡ rowLineOf (run from to (bottom cells)) 15
+unfolding topLinesOf
+bottom-lines cells from to =
+    ap (λ (l : List ℕ). l ++ rowLineOf (run from to (bottom cells)) 15)
+    (topLinesOf-none (run from to (bottom cells)) 14 (λ i h. before-over emptyScreen 896 cells i h ∙ getD-replicate 960 i 0 0 (omega arith)))
+
+abbrev hiScreen : List ℕ
+hiScreen = bottom (0x48 ∷ 0 ∷ 0x49 ∷ 0 ∷ [])
+
+-- "A" with a pen
+abbrev letterScreen : ℕ → List ℕ
+letterScreen pen = bottom (0x41 ∷ pen ∷ [])
+
+hi-row : (from to : ℕ) → rowLineOf (run from to hiScreen) 15 ≡ headOf from to 15 ++ (hi ++ (0x0a ∷ []))
+unfolding leadMoreOf endMoreOf leadOf endOf hexOf codesOf rowTextOf rowLineOf
+hi-row from to = refl
+
+letter-row : (pen from to : ℕ) → rowLineOf (run from to (letterScreen pen)) 15 ≡ headOf from to 15 ++ (letter ++ (0x0a ∷ []))
+unfolding leadMoreOf endMoreOf leadOf endOf hexOf codesOf rowTextOf rowLineOf
+letter-row pen from to = refl
+
+hi-lines : (from to : ℕ) → linesOf (run from to hiScreen) ≡ headOf from to 15 ++ (hi ++ (0x0a ∷ []))
+hi-lines from to = bottom-lines (0x48 ∷ 0 ∷ 0x49 ∷ 0 ∷ []) from to ∙ hi-row from to
+
+letter-lines : (pen from to : ℕ) → linesOf (run from to (letterScreen pen)) ≡ headOf from to 15 ++ (letter ++ (0x0a ∷ []))
+letter-lines pen from to = bottom-lines (0x41 ∷ pen ∷ []) from to ∙ letter-row pen from to
+
+-- each reel with its screens
+abbrev Films : List (List ℕ × List (List ℕ)) → Type 0
+Films [] = Unit
+Films (r ∷ rs) = (framesOf (r .0) ≡ r .1) × Films rs
+
+abbrev screens : List (List ℕ × List (List ℕ))
+screens =
+    (loaded, emptyScreen ∷ emptyScreen ∷ emptyScreen ∷ emptyScreen ∷ emptyScreen ∷ hiScreen ∷ hiScreen ∷ hiScreen ∷ hiScreen ∷ emptyScreen ∷ emptyScreen ∷ [])
+    ∷ ([], [])
+    ∷ (bad, emptyScreen ∷ hiScreen ∷ [])
+    ∷ (unfinished, emptyScreen ∷ hiScreen ∷ [])
+    ∷ (painted, emptyScreen ∷ letterScreen 0 ∷ letterScreen 0 ∷ letterScreen 1 ∷ [])
+    ∷ []
+
+films : Films screens
+unfolding isGood lowSeven digitOf hexOf judgeOf lineAt lineOf packOf unpackOf afterMidRow ofPreamble flashing afterWriteOf backOf tabOf preambleColumnOf preambleRowOf channelOf withoutChannelOf midRowOrSpecialOf tabOffsetOf preambleCodeOf channelOneCodeOf codeOf writeCellOf emptyCellOf emptyFromOf emptyRowsOf emptyAllOf exchangedOf rollOf emptyOutsideOf moveOf isReady cursorOf withCursor memoryOf writeOf turnedOf attributeOf midRowOf fonOf bsOf derOf tabbedOf movedOf preambleOf rclOf rdcOf textModeOf edmOf enmOf eocOf openedOf framedOf ruOf crOf gated actOf clearedOf typeOf asTextOf ruleOneOf ruleTwoOf controlOf ruleThreeOf ruleFourOf pairOf freshDesk displayedOf screensFrom framesOf
+films = (refl, (refl, (refl, (refl, (refl, tt)))))
+
+register-by : (r : List ℕ) {fs : List (List ℕ)} {rs : List Run} {text : List ℕ} → framesOf r ≡ fs → runsOf fs ≡ rs → textOf rs ≡ text
+    → registerOf r ≡ header ++ (text ++ refusalOf (length r) (length fs))
+unfolding registerOf
+register-by r {fs} film runs printed =
+    ap (λ (x : List (List ℕ)). header ++ (textOf (runsOf x) ++ refusalOf (length r) (length x))) film
+    ∙ ap (λ (x : List ℕ). header ++ (x ++ refusalOf (length r) (length fs))) (ap textOf runs ∙ printed)
+
 pub registers : Registers small
-unfolding isGood lowSeven digitOf hexOf judgeOf lineAt lineOf packOf unpackOf afterMidRow ofPreamble flashing afterWriteOf backOf tabOf preambleColumnOf preambleRowOf channelOf withoutChannelOf midRowOrSpecialOf tabOffsetOf preambleCodeOf channelOneCodeOf codeOf writeCellOf emptyCellOf emptyFromOf emptyRowsOf emptyAllOf exchangedOf rollOf emptyOutsideOf moveOf isReady cursorOf withCursor memoryOf writeOf turnedOf attributeOf midRowOf fonOf bsOf derOf tabbedOf movedOf preambleOf rclOf rdcOf textModeOf edmOf enmOf eocOf openedOf framedOf ruOf crOf gated actOf clearedOf typeOf asTextOf ruleOneOf ruleTwoOf controlOf ruleThreeOf ruleFourOf pairOf freshDesk leadMoreOf endMoreOf leadOf endOf decimalOf frameOf rowOf headOf codesOf rowTextOf rowLineOf topLinesOf refusedOf displayedOf screensFrom framesOf stretchesFrom runsOf textOf refusalOf registerOf
-registers = (refl, (refl, (refl, (refl, (refl, tt)))))
+unfolding lineOf decimalOf frameOf rowOf headOf refusedOf stretchesFrom runsOf textOf refusalOf
+registers =
+    let first = register-by loaded {rs = run 6 9 hiScreen ∷ []} (films .0) refl (λ i. hi-lines 6 9 i ++ []) in
+    let second = register-by [] (films .1 .0) refl refl in
+    let third = register-by bad {rs = run 2 2 hiScreen ∷ []} (films .1 .1 .0) refl (λ i. hi-lines 2 2 i ++ []) in
+    let fourth = register-by unfinished {rs = run 2 2 hiScreen ∷ []} (films .1 .1 .1 .0) refl (λ i. hi-lines 2 2 i ++ []) in
+    let fifth = register-by painted {rs = run 2 3 (letterScreen 0) ∷ run 4 4 (letterScreen 1) ∷ []} (films .1 .1 .1 .1 .0) refl (λ i. letter-lines 0 2 3 i ++ (letter-lines 1 4 4 i ++ [])) in
+    (first, (second, (third, (fourth, (fifth, tt)))))
