@@ -1,12 +1,12 @@
 -- The test that the code makes, row by row and outside the window, is the test of the definition. Assumes nothing.
-use mathlib.Core.Path.{_≡_, refl, ap, _∙_}
-use mathlib.Core.Bool.{Bool, true, _&&_}
+use mathlib.Core.Path.{_≡_, refl, ap, sym, _∙_}
+use mathlib.Core.Bool.{Bool, true, false, _&&_}
 use mathlib.Core.List.{List, [], _∷_}
 use Prim.Native.Nat.{ℕ, _+_, _-_, _*_, _/_, _%_, _<_, _≤_}
 use native.Mathlib.Omega.{arith}
 use lib.Dec.{eqb}
 use lib.ListN.{length, getD}
-use borrow.Author.Tests.{eqb-true, eq-eqb}
+use borrow.Author.Tests.{eqb-true, eq-eqb, ne-eqb}
 use Rattle.facts.specs.Every.{blankOf}
 use Rattle.facts.proofs.Choice.{below-cases, and-left, and-right, and-both, implies-at, implies-of, same-test}
 use Rattle.facts.proofs.Every.{every-at, every-of, blank-at, blank-of}
@@ -93,6 +93,11 @@ module _ (bs : List ℕ) where
         (λ k l u. (cells k (omega arith), windowed-facts (m .roll .row) (m .depth) k (codeAt bs 64 k) (inside k (omega arith)) .0 (omega arith))))
         (blank-cells (64 + row * 64) ((15 - row) * 64) (row * 32) ((15 - row) * 32) (omega arith) (omega arith)
         (λ k l u. (cells k (omega arith), windowed-facts (m .roll .row) (m .depth) k (codeAt bs 64 k) (inside k (omega arith)) .1 l))))
+
+  -- no other length is allowed
+  pub isValid-other : (length bs ≡ 1984 → ⊥) → false ≡ isValid bs
+  isValid-other other =
+      same-test false (isValid bs) (λ e. cc) (λ e. sym (ne-eqb (length bs) 1984 other) ∙ eq-eqb (length bs) 1984 (isValid-clauses bs e .size))
 
   module _ (size : length bs ≡ 1984) where
     check-clauses : checkOf bs ≡ true → Clauses bs

@@ -6,7 +6,7 @@ use Rattle.page.proofs.empty_all.Tie as tie
 
 returns : tie.Need-returns
 unfolding emptyAllOf
-returns c = cc
+returns c = c .before .before .wipe .ensures
 
 pub empty-all-spec : {M : Type 1} → statement M
 empty-all-spec = tie.close (tie.spec (λ c κs. search needs) (λ c. search needs) returns)

@@ -6,7 +6,7 @@ use Rattle.page.proofs.empty_rows.Tie as tie
 
 returns : tie.Need-returns
 unfolding emptyRowsOf
-returns c = cc
+returns c = c .before .before .wipe .ensures
 
 pub empty-rows-spec : {M : Type 1} → statement M
 empty-rows-spec =

@@ -6,7 +6,7 @@ use Rattle.page.proofs.exchange.Tie as tie
 
 returns : tie.Need-returns
 unfolding exchangedOf
-returns c = cc
+returns c = c .before .before .exchange .ensures
 
 pub exchange-spec : {M : Type 1} → statement M
 exchange-spec = tie.close (tie.spec (λ c κs. search needs) (λ c. search needs) returns)

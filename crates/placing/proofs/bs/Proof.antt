@@ -1,11 +1,15 @@
 -- `bs` meets its contract. Assumes nothing.
 use mathlib.Core.Path.{ap, sym, _∙_}
 use lib.Dec.{leb}
+use denote.Ref.{now}
 use borrow.Author.Tests.{le-leb, lt-leb}
 use borrow.Author.Needs.{needs}
 use Rattle.cell.specs.Cursor.{backOf}
 use Rattle.cell.proofs.Laws.{backOf-keeps-placed}
 use Rattle.cell.specs.declared.Cursor.{Cursor}
+use Rattle.page.specs.Page.{emptyCellOf}
+use Rattle.state.specs.State.{captions}
+use Rattle.state.specs.Style.{withCursor}
 use Rattle.placing.specs.Placing.{bsOf}
 use Rattle.placing.proofs.bs.Statement.{statement}
 use Rattle.placing.proofs.bs.Tie as tie
@@ -28,7 +32,11 @@ returns-2 c =
     let at = i .before .cursor .ensures .0 in
     let e = ap (λ (x : Cursor). leb (x .column .0) 1) (sym at) ∙ lt-leb _ _ (i .if1 .left) in
     let left = c .before .before .before .before .before .before .before .before .back .ensures ∙ ap backOf at in
-    rw e (cc left)
+    let emptied = c .before .before .before in
+    let a = i .before .before .before .args in
+    let mode = c .with-cursor .ensures ∙ ap (withCursor (a .mode)) left in
+    let cells = emptied .empty-cell .ensures ∙ (λ j. emptyCellOf (now (a .cells)) (emptied .before .memory .ensures .0 j) (left j .row) (left j .column)) in
+    rw e (λ j. captions (mode j) (cells j))
 
 pub bs-spec : {M : Type 1} → statement M
 bs-spec =

@@ -1,8 +1,9 @@
 -- `moved` meets its contract. Assumes nothing.
-use mathlib.Core.Path.{sym}
+use mathlib.Core.Path.{ap, sym}
 use denote.Ref.{now}
 use borrow.Author.Needs.{needs}
 use Rattle.state.specs.State.{captions}
+use Rattle.state.specs.Style.{cursors}
 use Rattle.placing.specs.Placing.{movedOf}
 use Rattle.placing.proofs.Laws.{movedOf-same}
 use Rattle.placing.proofs.moved.Statement.{statement}
@@ -16,7 +17,11 @@ returns c =
 
 returns-2 : tie.Need-returns-2
 unfolding movedOf
-returns-2 c = cc
+returns-2 c =
+    let w = c .before .before in
+    let a = w .before .before .before .before .before .before .before .before .before .args in
+    let m = a .mode in
+    ap (captions (cursors m (a .to) (m .pop) (m .paint))) (w .move-window .ensures)
 
 pub moved-spec : {M : Type 1} → statement M
 moved-spec = tie.close (tie.spec returns (λ c κs. search needs) (λ c. search needs) returns-2)

@@ -1,12 +1,17 @@
 -- `enm` meets its contract. Assumes nothing.
+use mathlib.Core.Path.{ap}
 use borrow.Author.Needs.{needs}
+use Rattle.state.specs.State.{captions}
 use Rattle.styles.specs.Styles.{enmOf}
 use Rattle.styles.proofs.enm.Statement.{statement}
 use Rattle.styles.proofs.enm.Tie as tie
 
 returns : tie.Need-returns
 unfolding enmOf
-returns c = cc
+returns c =
+    let e = c .before .before in
+    let a = e .before .before .before .args in
+    ap (captions (a .mode)) (e .empty-all .ensures)
 
 pub enm-spec : {M : Type 1} → statement M
 enm-spec = tie.close (tie.spec (λ c κs. search needs) (λ c. search needs) returns)

@@ -1,9 +1,12 @@
 -- `mid_row` meets its contract. Assumes nothing.
 use mathlib.Core.Path.{ap, _∙_}
+use denote.Ref.{now}
 use borrow.Author.Needs.{needs}
+use Rattle.state.specs.State.{captions}
+use Rattle.cell.specs.declared.Cursor.{Cursor}
 use Rattle.cell.proofs.Laws.{isPen-midRowPenOf}
-use Rattle.cell.specs.Pen.{isPen}
-use Rattle.typing.specs.Typing.{midRowOf}
+use Rattle.cell.specs.Pen.{isPen, midRowPenOf}
+use Rattle.typing.specs.Typing.{midRowOf, attributeOf}
 use Rattle.typing.proofs.mid_row.Statement.{statement}
 use Rattle.typing.proofs.mid_row.Tie as tie
 
@@ -15,7 +18,11 @@ attribute-requires c κs =
 
 returns : tie.Need-returns
 unfolding midRowOf
-returns c = cc
+returns c =
+    let at = c .before .before .before .before .before in
+    let a = at .before .before .args in
+    c .before .before .attribute .ensures
+    ∙ ap (attributeOf (captions (a .mode) (now (a .cells)))) (c .before .before .before .mid-row-pen .ensures ∙ ap (λ (x : Cursor). midRowPenOf (x .pen) (a .b)) (at .cursor .ensures .0))
 
 pub mid-row-spec : {M : Type 1} → statement M
 mid-row-spec =

@@ -2,10 +2,8 @@
 use mathlib.Core.Path.{refl, sym, _∙_}
 use denote.Ref.{now}
 use borrow.Author.Needs.{needs}
-use borrow.Author.Tests.{ne-eqb}
-use Rattle.valid.specs.Valid.{isValid}
 use Rattle.valid.proofs.Clauses.{isValidState-ranged}
-use Rattle.valid.proofs.Rows.{check-joined}
+use Rattle.valid.proofs.Rows.{check-joined, isValid-other}
 use Rattle.valid.proofs.is_valid.Statement.{statement}
 use Rattle.valid.proofs.is_valid.Tie as tie
 
@@ -31,8 +29,7 @@ returns-2 c =
     (sym (c .if2 .left) ∙ c .before .is-valid-state .ensures) refl refl refl
 
 returns-3 : tie.Need-returns-3
-unfolding isValid
-returns-3 c = simp (ne-eqb _ _ (c .if1 .left))
+returns-3 c = isValid-other (now (c .before .before .args .bytes)) (c .if1 .left)
 
 pub is-valid-spec : {M : Type 1} → statement M
 is-valid-spec =
