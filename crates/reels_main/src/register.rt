@@ -60,7 +60,7 @@ fn tell(reel: &[u8], cells: &mut [u8; 1920], held: &mut [u8; 960], out: &mut [u8
     };
     let mut w = walk::start(cells, held);
     while w.stage < END {
-        let p = walk::next_piece(w, reel, cells, held, out);
+        let p = pieces::next_piece(w, reel, cells, held, out);
         w = p.walk;
         t = add_piece(t, out, p.n);
     }

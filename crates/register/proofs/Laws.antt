@@ -10,10 +10,10 @@ use borrow.Author.Tests.{ltb-true, ltb-false, not-true}
 use Rattle.facts.proofs.Choice.{and-left, and-right}
 use Rattle.runs.specs.Register.{registerOf}
 use Rattle.walk.specs.Walk.{Place, atEnd, startOf, Fit, stepsOf}
-use Rattle.walk.specs.Pieces.{buffer, handed, nextPieceOf}
+use Rattle.pieces.specs.Pieces.{buffer, handed, nextPieceOf}
 use Rattle.walk.proofs.Laws.{restOf, rest-start, rest-none}
 use Rattle.walk.proofs.LawsOfSteps.{start-fit}
-use Rattle.walk.proofs.LawsOfPieces.{handed-rest, handed-fit, handed-on}
+use Rattle.pieces.proofs.Laws.{handed-rest, handed-fit, handed-on}
 
 -- The loop goes on while all is not given and no write has failed.
 

@@ -86,7 +86,7 @@ fn print(reel: &[u8]) -> Sent
         failed: false,
     };
     while (w.stage < END) & !sent.failed {
-        let p = walk::next_piece(w, reel, &mut cells, &mut held, &mut out);
+        let p = pieces::next_piece(w, reel, &mut cells, &mut held, &mut out);
         let n = p.n;
         w = p.walk;
         sent = send(sent, &out[..n]);

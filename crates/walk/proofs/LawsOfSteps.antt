@@ -145,3 +145,7 @@ module _ (p : Place) (reel : List ℕ) (f : Fit p) (live : p .walk .stage < atEn
       line (Pair first second) one e = omega (arith, next-below reel (p .walk .frame) e)
       line End one e = omega arith
       line Bad one e = omega arith
+
+-- No second walk fits the start.
+pub start-only : {p q : Place} → p ≡ startOf → q ≡ startOf → p ≡ q
+start-only e f = e ∙ sym f

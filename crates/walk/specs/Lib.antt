@@ -1,3 +1,2 @@
--- The definitions of `walk`: one step of the walk over a reel, and the register in pieces.
+-- The definitions of `walk`: one step of the walk over a reel.
 pub mod Walk
-pub mod Pieces

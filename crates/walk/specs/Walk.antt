@@ -55,6 +55,10 @@ pub record Fit (p : Place) : Type 0 where
 abbrev pub stepsOf : Walk → ℕ
 stepsOf w = (most - w .frame) + (2 - w .stage)
 
+-- the longest output of one step: fifteen lines of a run, and a refusal
+abbrev pub room : ℕ
+room = 1216
+
 -- whether the screen after a pair is the one that is held
 abbrev pub staysOf : Place → ℕ → ℕ → Bool
 staysOf p first second = isSame (screenOf (pairOf (desk (p .walk .state) (p .cells)) first second)) (p .held)

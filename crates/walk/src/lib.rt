@@ -1,15 +1,13 @@
-// The register of a reel in pieces: each call reads on in the reel and prints the next piece into a lent buffer.
+// One step of the register's walk over a reel: a frame's pair is shown, or the end is printed, behind the first bytes of a lent buffer.
 // The walk goes by value; the cells and the screen of the open stretch are lent, and their types fix their lengths.
 use state::State;
-use wire::Line;
 ghost use mathlib.Core.Path.{_≡_};
 ghost use Prim.Native.Nat.{_+_, _≤_, _<_};
 ghost use lib.ListN.{length};
 ghost use Rattle.lines.specs.Line.{Put};
-ghost use Rattle.runs.specs.Frames.{most, nextOf};
+ghost use Rattle.runs.specs.Frames.{most};
 ghost use Rattle.runs.specs.Register.{refusalOf};
-ghost use Rattle.walk.specs.Walk.{place, atEnd, startOf, Fit, shownOf, shownTextOf, finishedOf, finishTextOf, stepOf, stepTextOf};
-ghost use Rattle.walk.specs.Pieces.{room, isOn, handed, nextPieceOf};
+ghost use Rattle.walk.specs.Walk.{place, startOf, Fit, room, shownOf, shownTextOf, finishedOf, finishTextOf};
 
 // The stages of a walk.
 pub const HEADER: u8 = 0;
@@ -20,12 +18,6 @@ pub const END: u8 = 2;
 
 // A reel has at most so many frames.
 pub const MOST: usize = 16000;
-
-// The bytes of the buffer that a piece is put into.
-pub const BUFFER: usize = 65536;
-
-// The longest output of one step.
-pub const ROOM: usize = 1216;
 
 // How many frames are read, since which frame the present screen stands, and the decoder's state.
 pub struct Walk {
@@ -55,19 +47,8 @@ pub fn start(cells: &mut [u8; 1920], held: &mut [u8; 960]) -> Walk
     }
 }
 
-// What stands behind the frames that are read: the next line, or nothing after the last that is allowed.
-fn next_line(reel: &[u8], frame: usize) -> Line
-    requires { ⌜ frame ≤ most ⌝ }
-    ensures { λ r. ⌜ r ≡ nextOf (now (reel .entry)) frame ⌝ }
-{
-    if frame < MOST {
-        return reel::line(reel, frame * 5);
-    }
-    Line::End
-}
-
 // A frame's pair: where it changes the screen, the stretch that was open is printed, and its screen is held from now on.
-fn show(
+pub fn show(
     w: Walk,
     cells: &mut [u8],
     held: &mut [u8],
@@ -126,7 +107,7 @@ fn put_refusal(out: &mut [u8], n: usize, size: usize, frame: usize) -> usize
 }
 
 // The end: the open stretch closes at the last good frame, then the refusal if there is one.
-fn finish(w: Walk, size: usize, held: &[u8], out: &mut [u8], n: usize) -> Piece
+pub fn finish(w: Walk, size: usize, held: &[u8], out: &mut [u8], n: usize) -> Piece
     requires { ⌜ (length (now held) ≡ 960) × (w .frame ≤ most) × (n + room ≤ length (now out)) ⌝ }
     ensures { λ r. ⌜ (r .walk ≡ finishedOf w) × Put (now (out .entry)) n (finishTextOf w (now (held .entry)) size) room (now (out .exit)) (r .n) ⌝ }
 {
@@ -144,74 +125,4 @@ fn finish(w: Walk, size: usize, held: &[u8], out: &mut [u8], n: usize) -> Piece
         },
         n: end,
     }
-}
-
-// One step behind the first `n` bytes of the buffer: the header, one frame, or the end.
-fn step(w: Walk, reel: &[u8], cells: &mut [u8], held: &mut [u8], out: &mut [u8], n: usize) -> Piece
-    requires { ⌜ Fit (place w (now cells) (now held)) × (w .stage < atEnd) × (n + room ≤ length (now out)) ⌝ }
-    ensures { λ r. ⌜ (place (r .walk) (now (cells .exit)) (now (held .exit)) ≡ stepOf (place w (now (cells .entry)) (now (held .entry))) (now (reel .entry)))
-        × Put (now (out .entry)) n (stepTextOf (place w (now (cells .entry)) (now (held .entry))) (now (reel .entry))) room (now (out .exit)) (r .n) ⌝ }
-{
-    let frame = w.frame;
-    if w.stage == HEADER {
-        let since = w.since;
-        let state = w.state;
-        lines::put_header(out, n);
-        return Piece {
-            walk: Walk {
-                stage: FRAMES,
-                frame,
-                since,
-                state,
-            },
-            n: n + 18,
-        };
-    }
-    let line = next_line(reel, frame);
-    match line {
-        Line::Pair(first, second) => show(w, cells, held, out, n, first, second),
-        Line::End => finish(w, reel.len(), held, out, n),
-        Line::Bad => finish(w, reel.len(), held, out, n),
-    }
-}
-
-// Whether there is room for one step more, and all is not given yet.
-fn is_on(stage: u8, n: usize) -> bool
-    requires { ⌜ n ≤ 65536 ⌝ }
-    ensures { λ r. ⌜ r ≡ isOn stage n ⌝ }
-{
-    (n + ROOM <= BUFFER) & (stage < END)
-}
-
-// Step after step into a buffer, while there is room.
-fn fill(w: Walk, reel: &[u8], cells: &mut [u8], held: &mut [u8], out: &mut [u8]) -> Piece
-    requires { ⌜ Fit (place w (now cells) (now held)) × (length (now out) ≡ 65536) ⌝ }
-    ensures { λ r. ⌜ (handed (place (r .walk) (now (cells .exit)) (now (held .exit))) (r .n) (now (out .exit))
-        ≡ nextPieceOf (place w (now (cells .entry)) (now (held .entry))) (now (reel .entry)) (now (out .entry)))
-        × (r .n ≤ 65536) × (length (now (out .exit)) ≡ 65536) ⌝ }
-{
-    let mut at = w;
-    let mut n = 0;
-    while is_on(at.stage, n) {
-        let p = step(at, reel, cells, held, out, n);
-        at = p.walk;
-        n = p.n;
-    }
-    Piece { walk: at, n }
-}
-
-// The next piece of the register, as much as there is room for. A walk at `END` has given all.
-pub fn next_piece(
-    w: Walk,
-    reel: &[u8],
-    cells: &mut [u8; 1920],
-    held: &mut [u8; 960],
-    out: &mut [u8; 65536],
-) -> Piece
-    requires { ⌜ Fit (place w (now cells) (now held)) ⌝ }
-    ensures { λ r. ⌜ (handed (place (r .walk) (now (cells .exit)) (now (held .exit))) (r .n) (now (out .exit))
-        ≡ nextPieceOf (place w (now (cells .entry)) (now (held .entry))) (now (reel .entry)) (now (out .entry)))
-        × (r .n ≤ 65536) × (length (now (out .exit)) ≡ 65536) ⌝ }
-{
-    fill(w, reel, cells, held, out)
 }

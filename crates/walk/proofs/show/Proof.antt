@@ -12,8 +12,7 @@ use borrow.Author.Needs.{needs}
 use Rattle.lines.proofs.Laws.{put-nothing}
 use Rattle.facts.proofs.Over.{over-all}
 use Rattle.runs.proofs.Laws.{sameScreenOf-isSame}
-use Rattle.walk.specs.Walk.{place, walk}
-use Rattle.walk.specs.Pieces.{room}
+use Rattle.walk.specs.Walk.{place, walk, room}
 use Rattle.walk.proofs.LawsOfSteps.{shown-place, shown-text, put-as}
 use Rattle.walk.proofs.show.Statement.{statement}
 use Rattle.walk.proofs.show.Tie as tie

@@ -6,7 +6,7 @@ use lib.ListN.{length}
 use borrow.Author.Needs.{needs}
 use Rattle.walk.specs.Walk.{place, Fit, stepsOf}
 use Rattle.walk.proofs.LawsOfSteps.{start-fit}
-use Rattle.walk.proofs.LawsOfPieces.{handed-fit, handed-on}
+use Rattle.pieces.proofs.Laws.{handed-fit, handed-on}
 use Rattle.reels_main.proofs.register.tell.Statement.{statement}
 use Rattle.reels_main.proofs.register.tell.Tie as tie
 

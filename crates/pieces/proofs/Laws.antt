@@ -15,10 +15,10 @@ use Rattle.facts.proofs.Over.{length-over, over-nil, front-over}
 use Rattle.lines.specs.Line.{Put}
 use Rattle.lines.proofs.Laws.{over-then}
 use Rattle.runs.specs.Register.{registerOf}
-use Rattle.walk.specs.Walk.{Place, atEnd, startOf, Fit, stepsOf, stepOf, stepTextOf}
-use Rattle.walk.specs.Pieces.{buffer, room, isOn, Printed, printed, printFrom, pieceOf, Handed, handed, nextPieceOf, piecesFrom, piecesOf, joined}
+use Rattle.walk.specs.Walk.{Place, atEnd, startOf, room, Fit, stepsOf, stepOf, stepTextOf}
+use Rattle.pieces.specs.Pieces.{buffer, isOn, Printed, printed, printFrom, pieceOf, Handed, handed, nextPieceOf, piecesFrom, piecesOf, joined}
 use Rattle.walk.proofs.Laws.{restOf, rest-none, rest-start}
 use Rattle.walk.proofs.LawsOfSteps.{start-fit, step-rest, step-fit, step-on}
 
 -- where a step more is made, all is not given yet, and there is room for its output
 pub isOn-live : (stage n : ℕ) → isOn stage n ≡ true → stage < atEnd
@@ -180,9 +180,6 @@ unfolding piecesOf
 pieces-registerOf reel = pieces-rest (stepsOf (startOf .walk)) reel startOf start-fit (omega arith) ∙ rest-start reel
 
 -- No second answer fits.
-
-pub start-only : {p q : Place} → p ≡ startOf → q ≡ startOf → p ≡ q
-start-only e f = e ∙ sym f
 
 pub next-piece-only : (p : Place) (reel out : List ℕ) {q r : Place} {n m : ℕ} {left right : List ℕ} → handed q n left ≡ nextPieceOf p reel out → handed r m right ≡ nextPieceOf p reel out
     → (q ≡ r) × (n ≡ m) × (left ≡ right)

@@ -2,8 +2,8 @@
 use mathlib.Core.Path.{sym, _∙_}
 use borrow.Author.Needs.{needs}
 use Rattle.runs.proofs.Laws.{nextOf-line, nextOf-full}
-use Rattle.walk.proofs.next_line.Statement.{statement}
-use Rattle.walk.proofs.next_line.Tie as tie
+use Rattle.pieces.proofs.next_line.Statement.{statement}
+use Rattle.pieces.proofs.next_line.Tie as tie
 
 returns : tie.Need-returns
 returns c = c .line .ensures ∙ sym (nextOf-line _ _ (c .before .if1 .taken))

@@ -4,10 +4,10 @@ use native.Mathlib.Omega.{arith}
 use denote.Ref.{now}
 use lib.ListN.{length}
 use borrow.Author.Needs.{needs}
 use Rattle.walk.specs.Walk.{place, stepsOf}
-use Rattle.walk.proofs.LawsOfPieces.{isOn-live, isOn-room, Going, going-start, going-more, going-less, going-end}
-use Rattle.walk.proofs.fill.Statement.{statement}
-use Rattle.walk.proofs.fill.Tie as tie
+use Rattle.pieces.proofs.Laws.{isOn-live, isOn-room, Going, going-start, going-more, going-less, going-end}
+use Rattle.pieces.proofs.fill.Statement.{statement}
+use Rattle.pieces.proofs.fill.Tie as tie
 
 abbrev Inv-loop : tie.InvT-loop
 Inv-loop reel cells₀ held₀ out₀ at₀ n₀ cells held out at n =

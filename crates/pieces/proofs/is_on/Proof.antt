@@ -1,8 +1,8 @@
 -- `is_on` meets its contract. Assumes nothing.
 use borrow.Author.Needs.{needs}
-use Rattle.walk.specs.Pieces.{isOn}
-use Rattle.walk.proofs.is_on.Statement.{statement}
-use Rattle.walk.proofs.is_on.Tie as tie
+use Rattle.pieces.specs.Pieces.{isOn}
+use Rattle.pieces.proofs.is_on.Statement.{statement}
+use Rattle.pieces.proofs.is_on.Tie as tie
 
 returns : tie.Need-returns
 unfolding isOn

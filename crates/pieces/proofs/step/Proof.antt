@@ -4,11 +4,11 @@ use native.Mathlib.Omega.{arith}
 use denote.Ref.{now}
 use borrow.Author.Needs.{needs}
 use Rattle.runs.proofs.Laws.{next-below}
 use Rattle.walk.specs.declared.Walk.{Walk}
 use Rattle.walk.specs.Walk.{place}
 use Rattle.walk.proofs.LawsOfSteps.{put-as, step-header, step-line}
-use Rattle.walk.proofs.step.Statement.{statement}
-use Rattle.walk.proofs.step.Tie as tie
+use Rattle.pieces.proofs.step.Statement.{statement}
+use Rattle.pieces.proofs.step.Tie as tie
 
 returns : tie.Need-returns
 returns c =

@@ -8,15 +8,11 @@ use lib.Dec.{leb, ltb}
 use lib.ListN.{length}
 use Rattle.facts.specs.Choice.{pick}
 use Rattle.facts.specs.Over.{over}
-use Rattle.walk.specs.Walk.{Place, atEnd, startOf, stepsOf, stepOf, stepTextOf}
+use Rattle.walk.specs.Walk.{Place, atEnd, startOf, room, stepsOf, stepOf, stepTextOf}
 
 -- the bytes of the buffer that a piece is put into
 abbrev pub buffer : ℕ
 buffer = 65536
-
--- the longest output of one step: fifteen lines of a run, and a refusal
-abbrev pub room : ℕ
-room = 1216
 
 -- whether one step more is made behind n bytes: there is room for its output, and all is not given yet
 unfoldable pub isOn : ℕ → ℕ → Bool

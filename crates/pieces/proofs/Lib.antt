@@ -1,0 +1,2 @@
+-- The laws of `pieces` that others cite: what is to come, piece by piece.
+pub mod Laws

@@ -1,0 +1,2 @@
+-- The definitions of `pieces`: the register in pieces.
+pub mod Pieces
