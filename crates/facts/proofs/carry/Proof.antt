@@ -1,10 +1,11 @@
 -- `carry` meets its contract. Assumes nothing.
 use mathlib.Core.List.{List}
 use mathlib.Core.Path.{_≡_, ap, sym, _∙_}
-use Prim.Native.Nat.{ℕ, _+_, _-_}
+use Prim.Native.Nat.{ℕ, _+_, _-_, _≤_}
+use native.Mathlib.Nat.{add-sub-cancel-left}
 use native.Mathlib.Omega.{arith}
 use lib.Seq.{length-take-le}
-use lib.ListN.{take, drop, replicate}
+use lib.ListN.{length, take, drop, replicate}
 use denote.Ref.{now}
 use borrow.Rule.Slice.PartMut.{mid-len}
 use borrow.Author.Needs.{needs}
@@ -19,8 +20,10 @@ slice-aggregate-copy-2 c = sym (length-take-le _ _ (omega arith))
 copy-requires-2 : tie.Need-copy-requires-2
 copy-requires-2 c κs =
     let w = c .before .before .before .before in
-    let a = w .before .before .before .before .before .before .before .before .args in
-    let m = mid-len (a .to) (a .to + a .n) (w .wipe .last .0) (omega arith) in
+    let s = w .before .before .before .before .before .before .before .before in
+    let a = s .args in
+    let fits : a .to + a .n ≤ length (w .wipe .last .0) = omega arith in
+    let m = mid-len (a .to) (a .to + a .n) (w .wipe .last .0) fits in
     omega (arith, m, length-take-le (a .n) (w .before .before .before .copy .last .0) (omega arith))
 
 returns : tie.Need-returns
@@ -28,15 +31,17 @@ returns c =
     let p = c .before .before in
     let w = p .before .before .before .before .before in
     let h = w .before .before .before in
-    let a = h .before .before .before .before .before .args in
+    let start = h .before .before .before .before .before in
+    let a = start .args in
     let d = now (a .bytes) in
     let s = part d (a .from) (a .n) in
-    let size = length-part d (a .from) (a .n) (omega arith) in
-    let cut : (a .from + a .n) - a .from ≡ a .n = omega arith in
-    let room : (a .to + a .n) - a .to ≡ a .n = omega arith in
-    let lent = mid-len (a .to) (a .to + a .n) (w .wipe .last .0) (omega arith) in
+    let size = length-part d (a .from) (a .n) (start .pre .2) in
+    let cut = add-sub-cancel-left (a .from) (a .n) in
+    let room = add-sub-cancel-left (a .to) (a .n) in
+    let fits : a .to + a .n ≤ length (w .wipe .last .0) = omega arith in
+    let lent = mid-len (a .to) (a .to + a .n) (w .wipe .last .0) fits in
     let hole = take ((a .to + a .n) - a .to) (drop (a .to) (w .wipe .last .0)) in
-    let front = take-over-front (replicate 256 0) s (a .n) size (omega arith) (h .copy .ensures ∙ ap (λ (k : ℕ). over (replicate 256 0) 0 (take k (drop (a .from) d))) cut) in
+    let front = take-over-front (replicate 256 0) s (a .n) size (start .pre .0) (h .copy .ensures ∙ ap (λ (k : ℕ). over (replicate 256 0) 0 (take k (drop (a .from) d))) cut) in
     part-over (w .wipe .last .0) (a .to) _ (size ∙ sym room) (omega arith)
     (p .copy2 .ensures ∙ ap (over hole 0) front ∙ over-all hole s (lent ∙ room ∙ sym size))
     ∙ ap (λ (l : List ℕ). over l (a .to) s) (w .wipe .ensures)
