@@ -1,2 +1,3 @@
 -- The laws of `decode` that others cite.
 pub mod Laws
+pub mod LawsOfActs

@@ -1,4 +1,4 @@
--- A list written over: its length, what lies inside and outside, one store more, a lent part that comes back. Assumes nothing.
+-- A list written over: its length, what lies inside and outside, one store more, a lent part that comes back, a text behind a text. Assumes nothing.
 use mathlib.Core.Path.{_≡_, refl, ap, sym, _∙_}
 use mathlib.Core.List.{List, [], _∷_, _++_}
 use Prim.Native.Nat.{ℕ, zero, suc, _+_, _<_, _≤_}
@@ -141,3 +141,14 @@ pub take-over-front : (z s : List ℕ) (n : ℕ) {x : List ℕ} → length s ≡
 take-over-front z s n {x} e h f =
     let k : n ≡ 0 + length s = omega arith in
     (λ i. take (k i) (f i)) ∙ front-over z 0 s (omega arith)
+
+-- A text written behind a text is one text.
+
+over-join : (d : List ℕ) (at : ℕ) (s t : List ℕ) → over (over d at s) (at + length s) t ≡ over d at (s ++ t)
+over-join [] at s t = refl
+over-join (x ∷ d) (suc at) s t = rw suc-add (ap (λ (l : List ℕ). x ∷ l) (over-join d at s t))
+over-join (x ∷ d) zero [] t = refl
+over-join (x ∷ d) zero (v ∷ s) t = rw zero-add (ap (λ (l : List ℕ). v ∷ l) (rw zero-add at (over-join d zero s t)))
+
+pub over-then : (d : List ℕ) (n : ℕ) (s t : List ℕ) (k : ℕ) {o p : List ℕ} → k ≡ n + length s → o ≡ over d n s → p ≡ over o k t → p ≡ over d n (s ++ t)
+over-then d n s t k e f g = g ∙ (λ i. over (f i) (e i) t) ∙ over-join d n s t

@@ -1,14 +1,14 @@
--- The laws of the register's lines that callers cite: texts one behind the other, how long lines are, and that an empty screen prints none. Assumes nothing.
+-- The laws of the register's lines that callers cite: printing one behind the other, how long lines are, and that an empty screen prints none. Assumes nothing.
 use mathlib.Core.Path.{_≡_, refl, ap, sym, _∙_}
 use mathlib.Core.Bool.{true}
 use mathlib.Core.List.{List, [], _∷_, _++_}
 use Prim.Native.Nat.{ℕ, zero, suc, _+_, _*_, _<_, _≤_}
-use native.Mathlib.Nat.{suc-add, zero-add}
+use native.Mathlib.Nat.{zero-add}
 use native.Mathlib.Omega.{arith}
 use lib.ListN.{length, getD, length-append}
 use borrow.Author.Tests.{eq-eqb}
 use Rattle.facts.specs.Over.{over}
-use Rattle.facts.proofs.Over.{over-nil}
+use Rattle.facts.proofs.Over.{over-nil, over-then}
 use Rattle.cell.specs.Place.{rowNumber, rowAt}
 use Rattle.page.specs.Page.{displayed, isEmptyOf}
 use Rattle.page.proofs.Laws.{isEmptyOf-at}
@@ -17,17 +17,6 @@ use Rattle.lines.proofs.Printed.{endOf-none}
 
 -- Texts written one behind the other are one text.
 
-over-join : (d : List ℕ) (at : ℕ) (s t : List ℕ) → over (over d at s) (at + length s) t ≡ over d at (s ++ t)
-over-join [] at s t = refl
-over-join (x ∷ d) (suc at) s t = rw suc-add (ap (λ (l : List ℕ). x ∷ l) (over-join d at s t))
-over-join (x ∷ d) zero [] t = refl
-over-join (x ∷ d) zero (v ∷ s) t = rw zero-add (ap (λ (l : List ℕ). v ∷ l) (rw zero-add at (over-join d zero s t)))
-
--- a text behind a text
-pub over-then : (d : List ℕ) (n : ℕ) (s t : List ℕ) (k : ℕ) {o p : List ℕ} → k ≡ n + length s → o ≡ over d n s → p ≡ over o k t → p ≡ over d n (s ++ t)
-over-then d n s t k e f g = g ∙ (λ i. over (f i) (e i) t) ∙ over-join d n s t
-
--- and so are two calls that print
 pub put-then : {d o left s t : List ℕ} {n k m a b : ℕ} → Put d n s a o k → Put o k t b left m → Put d n (s ++ t) (a + b) left m
 put-then {d} {s = s} {t = t} {n = n} {k = k} p q =
     let next = p .next in

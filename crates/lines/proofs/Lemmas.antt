@@ -7,13 +7,13 @@ use native.Mathlib.Omega.{arith}
 use lib.ListN.{length, set, length-append}
 use borrow.Author.Tests.{eq-eqb, ne-eqb}
 use Rattle.facts.specs.Over.{over}
-use Rattle.facts.proofs.Over.{over-two}
+use Rattle.facts.proofs.Over.{over-two, over-then}
 use Rattle.wire.specs.Line.{hexOf}
 use Rattle.cell.specs.Place.{rowNumber, rowAt}
 use Rattle.page.specs.Page.{displayed}
 use Rattle.lines.specs.Span.{codeAt, leadOf, endOf}
 use Rattle.lines.specs.Line.{headOf, codesOf, Run, lineOf, rowLineOf, topLinesOf, Put}
-use Rattle.lines.proofs.Laws.{over-then, put-nothing, length-codesOf, length-headOf}
+use Rattle.lines.proofs.Laws.{put-nothing, length-codesOf, length-headOf}
 
 -- one turn of the loop that prints codes
 pub codes-more : (d : List ℕ) (n : ℕ) (s : List ℕ) (at from k m : ℕ) {out : List ℕ} {a b : ℕ} → from ≤ k → m ≡ n + (k - from) * 2

@@ -11,9 +11,8 @@ use borrow.Author.Tests.{ltb-true, ltb-false, lt-ltb, leb-true}
 use Rattle.facts.specs.Choice.{pick}
 use Rattle.facts.specs.Over.{over}
 use Rattle.facts.proofs.Choice.{pick-cases, and-left, and-right}
-use Rattle.facts.proofs.Over.{length-over, over-nil, front-over}
+use Rattle.facts.proofs.Over.{length-over, over-nil, front-over, over-then}
 use Rattle.lines.specs.Line.{Put}
-use Rattle.lines.proofs.Laws.{over-then}
 use Rattle.runs.specs.Register.{registerOf}
 use Rattle.walk.specs.Walk.{Place, atEnd, startOf, room, Fit, stepsOf, stepOf, stepTextOf}
 use Rattle.pieces.specs.Pieces.{buffer, isOn, Printed, printed, printFrom, pieceOf, Handed, handed, nextPieceOf, piecesFrom, piecesOf, joined}

@@ -1,10 +1,10 @@
 -- What the pairs of an item do to a desk: a control pair sent twice acts once, whatever was expected; characters are written. Assumes nothing.
 use mathlib.Core.Path.{_≡_, refl, sym, ap, _∙_}
-use mathlib.Core.Bool.{Bool, true, false, not, _&&_, _||_}
-use mathlib.Core.List.{List, [], _∷_, _++_}
-use Prim.Native.Nat.{ℕ, _+_, _-_, _*_, _<_, _≤_}
+use mathlib.Core.Bool.{Bool, true, false, _&&_}
+use mathlib.Core.List.{List}
+use Prim.Native.Nat.{ℕ, _-_, _<_, _≤_}
 use native.Mathlib.Omega.{arith}
-use lib.Dec.{eqb, leb, ltb}
+use lib.Dec.{eqb, ltb}
 use borrow.Author.Tests.{lt-ltb, le-ltb, eq-eqb, ne-eqb, eqb-true}
 use Rattle.facts.specs.Choice.{pick}
 use Rattle.facts.proofs.Choice.{and-left, and-right, and-both, pick-cases}
@@ -17,7 +17,7 @@ use Rattle.state.specs.Style.{isReady, cursorOf}
 use Rattle.state.proofs.Laws.{isReady-withCursor}
 use Rattle.typing.specs.Typing.{writeOf}
 use Rattle.acts.specs.Act.{actOf}
-use Rattle.decode.specs.Pair.{captionsOf, withCaptions, told, clearedOf, typeOf, asTextOf, isPassedOver, controlOf, ruleTwoOf, ruleThreeOf, ruleFourOf, pairOf}
+use Rattle.decode.specs.Pair.{captionsOf, withCaptions, told, clearedOf, typeOf, asTextOf, controlOf, ruleThreeOf, ruleFourOf, pairOf}
 use Rattle.decode.specs.Step.{counted, takenOf}
 use Rattle.wire.specs.Byte.{sentOf}
 use Rattle.wire.proofs.LawsOfSent.{isGood-sentOf, lowSeven-sentOf}
@@ -62,7 +62,7 @@ module _ (channel a b : ℕ) (k : Control channel a b) where
   isRepeat d = eqb a (d .state .first) && eqb b (d .state .second)
 
   -- rule 3, for a pair that is assigned: it is the expected one, or it acts
-  pair-control : (d : Desk) → pairOf d (sentOf a) (sentOf b) ≡ pick (isRepeat d) (clearedOf d) (controlOf (clearedOf d) a b)
+  pub pair-control : (d : Desk) → pairOf d (sentOf a) (sentOf b) ≡ pick (isRepeat d) (clearedOf d) (controlOf (clearedOf d) a b)
   unfolding pairOf ruleThreeOf
   pair-control d =
       let ga = isGood-sentOf a in
@@ -84,7 +84,7 @@ module _ (channel a b : ℕ) (k : Control channel a b) where
       rw (e, eq-eqb channel (d .state .selected) (sym s))
 
   -- the expected pair does nothing, and is expected no more
-  pass-over : (d : Desk) → isRepeat d ≡ true → takenOf d (sentOf a) (sentOf b) ≡ counted (clearedOf d)
+  pub pass-over : (d : Desk) → isRepeat d ≡ true → takenOf d (sentOf a) (sentOf b) ≡ counted (clearedOf d)
   unfolding takenOf
   pass-over d t = ap counted (pair-control d ∙ rw t)
 

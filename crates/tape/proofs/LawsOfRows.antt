@@ -1,37 +1,34 @@
 -- A row's items load the row, and all rows the memory. Assumes nothing.
 use mathlib.Core.Path.{_≡_, refl, sym, ap, subst, _∙_}
-use mathlib.Core.Bool.{Bool, true, false, _&&_}
-use mathlib.Core.List.{List, [], _∷_, _++_}
+use mathlib.Core.Bool.{true}
+use mathlib.Core.List.{List}
 use Prim.Native.Nat.{ℕ, zero, suc, _+_, _-_, _*_, _/_, _%_, _<_, _≤_}
 use native.Mathlib.Omega.{arith}
-use native.Mathlib.Numerals.{add-one}
 use lib.Dec.{eqb, leb, ltb}
 use lib.ListN.{getD}
-use borrow.Author.Tests.{lt-ltb, le-ltb, lt-leb, le-leb, eqb-true, eqb-false, leb-true, leb-false, ltb-true, ltb-false}
+use borrow.Author.Tests.{lt-ltb, lt-leb, le-leb, eqb-true, eqb-false, leb-true, ltb-true, ltb-false}
 use Rattle.facts.specs.Choice.{pick}
 use Rattle.facts.proofs.Choice.{pick-cases, below-cases, and-left, and-right}
 use Rattle.cell.specs.Place.{rowNumber, columnNumber}
-use Rattle.codes.specs.Codes.{codeOf}
 use Rattle.codes.specs.Assigned.{isUnassigned}
 use Rattle.state.specs.State.{Captions}
 use Rattle.typing.specs.Typing.{writeOf}
-use Rattle.acts.specs.Act.{actOf}
-use Rattle.record.specs.Layout.{codeAt, penAt}
+use Rattle.record.specs.Layout.{codeAt}
 use Rattle.lines.specs.Span.{leadOf, endOf}
-use Rattle.lines.proofs.Printed.{First, Last, leadOf-first, endOf-last}
+use Rattle.lines.proofs.Printed.{Last, leadOf-first, endOf-last}
 use Rattle.tape.specs.declared.Item.{Item}
 use Rattle.tape.specs.Item.{item, isPlain, gapOf, nextItemOf, bytesOf}
 use Rattle.tape.specs.Preamble.{firsts, seconds, styleOf, indentOf, preambleItemOf}
 use Rattle.tape.specs.Writable.{areCells, rowPenOf, isWritable}
 use Rattle.tape.specs.Tape.{codeBefore, itemAt, itemsOf, restOf, filledRowOf, rowTapeOf, rowsTapeOf}
 use Rattle.tape.proofs.LawsOfLoading.{Loaded, Stands, skip, put, special, tabs, addresses, special-kept, tab-kept, preamble-kept}
-use Rattle.tape.proofs.LawsOfCodes.{code-tab, code-special, Addressed, addressed}
+use Rattle.tape.proofs.LawsOfCodes.{code-tab, code-special, addressed}
 use Rattle.tape.proofs.LawsOfItems.{Leads, leads-none, leads-then, leads-so, leads-control, leads-one, leads-two}
 use Rattle.tape.proofs.LawsOfWritable.{code-kinds, Fine, fine, empty-bytes}
 
 -- what codeBefore says of a cell
 module _ (memory : List ℕ) (at end k : ℕ) where
-  before-here : k < end → codeBefore memory at end k ≡ codeAt memory at k
+  pub before-here : k < end → codeBefore memory at end k ≡ codeAt memory at k
   unfolding codeBefore
   before-here h = rw (lt-ltb k end h)
 
@@ -177,6 +174,14 @@ module _ (channel : ℕ) (cl : 1 ≤ channel) (cu : channel ≤ 2) (memory : Lis
   unfolding restOf
   rest-leads k h = items-lead (end - k) k h (omega arith)
 
+-- the first character of a row is not behind the last
+pub lead-before-end : (memory : List ℕ) (at : ℕ) → (endOf memory at 32 ≡ 0 → ⊥) → leadOf memory at 32 < endOf memory at 32
+lead-before-end memory at some =
+    let end = endOf memory at 32 in
+    let lead = leadOf memory at 32 in
+    let e : end ≡ end - 1 + 1 = omega arith in
+    below-cases lead end (λ l. l) (λ g. absurd (endOf-last memory at 32 .filled (end - 1) e (leadOf-first memory at 32 .empty (end - 1) (omega arith))))
+
 -- A row loads its 64 bytes, and all rows the memory.
 
 module _ (channel : ℕ) (cl : 1 ≤ channel) (cu : channel ≤ 2) (memory : List ℕ) (valid : areCells memory ≡ true) (writable : isWritable memory ≡ true) where
@@ -205,18 +210,11 @@ module _ (channel : ℕ) (cl : 1 ≤ channel) (cu : channel ≤ 2) (memory : Lis
         skip memory (row * 64 + k * 2) ((row + 1) * 64) c (omega arith) (omega arith)
         (λ i g u. empty-bytes memory (row * 64) pen f k 32 (omega arith) (λ j a b. last .empty j (omega arith) b) i g (omega arith)) l
 
-    -- the cells before the first character are empty, and it is before the end
-    led-by : (endOf memory (row * 64) 32 ≡ 0 → ⊥) → leadOf memory (row * 64) 32 < endOf memory (row * 64) 32
-    led-by some =
-        let first = leadOf-first memory (row * 64) 32 in
-        let e : endHere ≡ endHere - 1 + 1 = omega arith in
-        below-cases leadHere endHere (λ l. l) (λ g. absurd (last .filled (endHere - 1) e (first .empty (endHere - 1) (omega arith))))
-
     filled-leads : (endOf memory (row * 64) 32 ≡ 0 → ⊥) → Leads channel (Loaded memory (row * 64)) (Loaded memory ((row + 1) * 64)) (filledRowOf channel memory row)
     unfolding filledRowOf preambleItemOf indentOf
     filled-leads some =
         let high = last .high in
-        let early = led-by some in
+        let early = lead-before-end memory (row * 64) some in
         let first = leadOf-first memory (row * 64) 32 in
         let k = indentOf pen leadHere in
         let near : k ≤ leadHere = pick-cases (λ (x : ℕ). x ≤ leadHere) (eqb (pen % 16) 0) (λ t. omega arith) (λ t. omega arith) in

@@ -1,12 +1,11 @@
 -- How long a tape is: so many bytes an item at most, and `longest` in all; a row's items one by one; and what tapes and programmes are made of is whole pairs. Assumes nothing.
 use mathlib.Core.Path.{_≡_, refl, sym, ap, _∙_}
-use mathlib.Core.Bool.{Bool, true, false}
 use mathlib.Core.List.{List, [], _∷_, _++_, append-assoc}
-use Prim.Native.Nat.{ℕ, zero, suc, _+_, _-_, _*_, _/_, _<_, _≤_}
+use Prim.Native.Nat.{ℕ, zero, suc, _+_, _-_, _*_, _<_, _≤_}
 use native.Mathlib.Omega.{arith}
 use lib.Dec.{eqb, leb, ltb}
 use lib.ListN.{length, length-append}
-use borrow.Author.Tests.{lt-ltb, le-ltb, ltb-true, ltb-false}
+use borrow.Author.Tests.{lt-ltb, le-ltb}
 use Rattle.facts.specs.Choice.{pick}
 use Rattle.facts.proofs.Choice.{pick-cases}
 use Rattle.wire.specs.Reel.{Pairs, pairsOf}
@@ -15,8 +14,7 @@ use Rattle.wire.proofs.LawsOfReel.{pairs-then}
 use Rattle.lines.specs.Span.{leadOf, endOf}
 use Rattle.lines.proofs.Printed.{endOf-last}
 use Rattle.tape.specs.declared.Item.{Item}
-use Rattle.tape.specs.Item.{item, rclItem, edmItem, enmItem, eocItem, isPlain, gapOf, nextItemOf, bytesOf, widest}
-use Rattle.wire.specs.Byte.{sentOf}
+use Rattle.tape.specs.Item.{rclItem, edmItem, enmItem, eocItem, isPlain, gapOf, nextItemOf, bytesOf, widest}
 use Rattle.tape.specs.Preamble.{preambleItemOf}
 use Rattle.tape.specs.Writable.{rowPenOf}
 use Rattle.tape.specs.Tape.{codeBefore, itemAt, itemsOf, restOf, filledRowOf, rowTapeOf, rowsTapeOf, loadingOf, tapeOf, longest}

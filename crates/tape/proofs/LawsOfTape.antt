@@ -1,11 +1,10 @@
 -- The whole tape: RCL and ENM open an empty memory, EOC shows what was loaded. Assumes nothing.
-use mathlib.Core.Path.{_≡_, refl, sym, ap, subst, _∙_}
+use mathlib.Core.Path.{_≡_, refl, sym, ap, _∙_}
 use mathlib.Core.Bool.{true, false}
 use mathlib.Core.List.{List, [], _∷_, _++_, append-nil, append-assoc}
 use Prim.Native.Nat.{ℕ, _+_, _-_, _*_, _<_, _≤_}
-use native.Mathlib.Nat.{zero-add}
 use native.Mathlib.Omega.{arith}
-use lib.ListN.{length, length-append, getD, take, replicate, length-replicate, getD-replicate}
+use lib.ListN.{length, length-append, take, replicate, length-replicate, getD-replicate}
 use lib.Seq.{ext-getD, getD-take, length-take-le}
 use borrow.Author.Tests.{lt-ltb}
 use Rattle.facts.proofs.Over.{in-over, take-over}

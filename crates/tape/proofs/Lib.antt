@@ -7,3 +7,5 @@ pub mod LawsOfWritable
 pub mod LawsOfRows
 pub mod LawsOfTape
 pub mod LawsOfSizes
+pub mod LawsOfKinds
+pub mod LawsOfOther

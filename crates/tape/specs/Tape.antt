@@ -2,7 +2,7 @@
 -- Paper 02, request 1: "RCL, ENM, preambles, tabs, characters, EOC, every control pair twice."; Paper 01, "Record, log, tray": "row by row, two bytes a cell".
 -- Assumes nothing.
 use Prim.Native.Nat.{ℕ, zero, suc, _+_, _-_, _*_}
-use mathlib.Core.List.{List, [], _∷_, _++_}
+use mathlib.Core.List.{List, [], _++_}
 use lib.Dec.{eqb, ltb}
 use Rattle.facts.specs.Choice.{pick}
 use Rattle.record.specs.Layout.{codeAt}

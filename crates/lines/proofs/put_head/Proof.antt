@@ -4,7 +4,8 @@ use Prim.Native.Nat.{_+_}
 use denote.Ref.{now}
 use borrow.Author.Needs.{needs}
 use Rattle.lines.specs.Line.{frameOf, headOf}
-use Rattle.lines.proofs.Laws.{over-then, length-frameOf}
+use Rattle.facts.proofs.Over.{over-then}
+use Rattle.lines.proofs.Laws.{length-frameOf}
 use Rattle.lines.proofs.put_head.Statement.{statement}
 use Rattle.lines.proofs.put_head.Tie as tie
 

@@ -7,7 +7,8 @@ use denote.Ref.{now}
 use borrow.Author.Needs.{needs}
 use Rattle.facts.specs.Over.{over}
 use Rattle.lines.specs.Line.{frameOf, refusedOf}
-use Rattle.lines.proofs.Laws.{over-then, length-frameOf}
+use Rattle.facts.proofs.Over.{over-then}
+use Rattle.lines.proofs.Laws.{length-frameOf}
 use Rattle.lines.proofs.put_refused.Statement.{statement}
 use Rattle.lines.proofs.put_refused.Tie as tie
 

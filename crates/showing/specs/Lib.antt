@@ -1,0 +1,2 @@
+-- The definitions of `showing`: the call take, pair after pair.
+pub mod Takes

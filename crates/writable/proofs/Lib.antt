@@ -1,0 +1,2 @@
+-- What the proofs of `writable` rest on.
+mod LawsOfChecks

@@ -1,0 +1,2 @@
+-- The definitions of `writer`: the call with its refusals.
+pub mod Write
