@@ -1,5 +1,6 @@
 /*
- * A viewing desk in C: it plays a tape, shows the screen, steps back, and is refused once.
+ * A viewing desk in C: it plays a tape, shows the screen, steps back, writes that screen as a tape of its own and takes it, and is refused
+ * once.
  *
  *     desk [TAPE]
  *
@@ -29,6 +30,7 @@ static const char *const meanings[] = {
     "back by more than stand",
     "a frame line is not four of 0-9 A-F and a line feed",
     "desk invalid; in back, start or a needed act invalid",
+    "the screen is not writable",
 };
 
 /* Says what a call gave: the act count, or the number of its refusal. */
@@ -87,6 +89,21 @@ static void show(const struct buffers *b)
         puts("  an empty screen");
 }
 
+/* Writes the tape of the screen, says how long it is, and gives the desk its pairs. The result is that of the last call, or of the first refused. */
+static uint32_t write_and_take(struct buffers *b)
+{
+    uint8_t cells[LOIKRASUN_VIEW_LENGTH] = {0}, tape[LOIKRASUN_TAPE_LENGTH];
+    loikrasun_view(b->desk, sizeof b->desk, cells, sizeof cells);
+    uint32_t result = loikrasun_tape(cells, sizeof cells, 1, tape, sizeof tape);
+    uint32_t length = loikrasun_value(result);
+    if (loikrasun_number(result) != LOIKRASUN_DONE)
+        return result;
+    printf("the screen as a tape: %u bytes\n", (unsigned)length);
+    for (uint32_t at = 0; at < length && loikrasun_number(result) == LOIKRASUN_DONE; at += 2)
+        result = loikrasun_take(LENT(b), tape[at], tape[at + 1]);
+    return result;
+}
+
 int main(int argc, char **argv)
 {
     /* room for one line more than can stand, so that a longer tape is refused and not cut */
@@ -105,6 +122,8 @@ int main(int argc, char **argv)
     tell("back by 2", loikrasun_back(LENT(&b), 2));
     show(&b);
     tell("back by 20", loikrasun_back(LENT(&b), 20));
+    show(&b);
+    tell("taken", write_and_take(&b));
     show(&b);
 
     /* More acts than can stand: the desk says which refusal it is, and leaves every byte as it was. */

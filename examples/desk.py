@@ -1,4 +1,5 @@
-"""A viewing desk in Python: it plays a tape, shows the screen, steps back, and is refused once.
+"""A viewing desk in Python: it plays a tape, shows the screen, steps back, writes that screen as a tape of its own and takes it, and
+is refused once.
 
     python3 examples/desk.py [TAPE]
 
@@ -11,7 +12,7 @@ from ctypes import CDLL, c_size_t, c_uint8, c_uint32, c_void_p
 from pathlib import Path
 
 ROOT = Path(__file__).resolve().parent.parent
-DESK, LOG, TRAY, VIEW, LINE = 1984, 48000, 31744, 960, 5
+DESK, LOG, TRAY, VIEW, LINE, TAPE = 1984, 48000, 31744, 960, 5, 4096
 MOST_ACTS = 16000
 
 # The paper's words for its numbers.
@@ -23,6 +24,7 @@ MEANINGS = [
     "back by more than stand",
     "a frame line is not four of 0-9 A-F and a line feed",
     "desk invalid; in back, start or a needed act invalid",
+    "the screen is not writable",
 ]
 
 # The archive's functions: a lent buffer passes as pointer and length, and the result is one number.
@@ -36,6 +38,7 @@ for name, parameters in {
     "loikrasun_row": LENT + [c_uint8],
     "loikrasun_view": LENT + LENT,
     "loikrasun_line_read": LENT,
+    "loikrasun_tape": LENT + [c_uint8] + LENT,
 }.items():
     function = getattr(library, name)
     function.argtypes = parameters
@@ -72,6 +75,20 @@ class Desk:
     def back(self, k):
         return call("back", *self.buffers, k)
 
+    def write_and_take(self):
+        """Writes the tape of the screen, says how long it is, and takes its pairs. The result is that of the last call, or of the first refused."""
+        cells, tape = (c_uint8 * VIEW)(), (c_uint8 * TAPE)()
+        call("view", self.buffers[0], cells)
+        number, length = given = call("tape", cells, 1, tape)
+        if number != 0:
+            return given
+        print(f"the screen as a tape: {length} bytes")
+        for at in range(0, length, 2):
+            given = call("take", *self.buffers, tape[at], tape[at + 1])
+            if given[0] != 0:
+                break
+        return given
+
     def show(self):
         """Prints the rows of the screen that are not empty."""
         cells = (c_uint8 * VIEW)()
@@ -107,6 +124,8 @@ def main():
     for k in (2, 20):
         tell(f"back by {k}", desk.back(k))
         desk.show()
+    tell("taken", desk.write_and_take())
+    desk.show()
 
     # More acts than can stand: the desk says which refusal it is, and leaves every byte as it was.
     before = [bytes(buffer) for buffer in desk.buffers]

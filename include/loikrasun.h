@@ -34,10 +34,11 @@ enum {
     LOIKRASUN_TRAY_LENGTH = 31744,
     LOIKRASUN_VIEW_LENGTH = 960,
     LOIKRASUN_LINE_LENGTH = 5,
+    LOIKRASUN_TAPE_LENGTH = 4096,
     LOIKRASUN_MOST_ACTS = 16000
 };
 
-/* The numbers given back. Where more than one would fit, the order is 1, 6 for the desk, 2, 3, 4, 6 for start and acts, 5. */
+/* The numbers given back. Where several would fit, the order is 1, 6 for desk or screen, 2, 3, 4, 6 for start and acts, 5, 7. */
 enum {
     LOIKRASUN_DONE = 0,         /* done; the value is the act count, or what was asked */
     LOIKRASUN_WRONG_LENGTH = 1, /* a lent buffer has a wrong length */
@@ -45,7 +46,8 @@ enum {
     LOIKRASUN_FULL = 3,         /* 16,000 acts stand already */
     LOIKRASUN_TOO_FAR = 4,      /* back by more than stand */
     LOIKRASUN_BAD_LINE = 5,     /* a frame line is not four of 0-9 A-F and a line feed */
-    LOIKRASUN_INVALID = 6       /* desk invalid; in back, start or a needed act invalid */
+    LOIKRASUN_INVALID = 6,      /* desk invalid; in back, start or a needed act invalid; in tape, a cell of the screen invalid */
+    LOIKRASUN_NOT_WRITABLE = 7  /* a screen of valid cells for which there is no tape */
 };
 
 /* A result holds the number and the value; both are always had back from it. On a refusal the value is 0. */
@@ -101,6 +103,15 @@ uint32_t loikrasun_line_write(uint8_t *out, size_t out_length, uint8_t first, ui
  * there is no pair and number and value are 0; so they are for the pair 0000. The length tells the two apart.
  */
 uint32_t loikrasun_line_read(const uint8_t *reel, size_t reel_length);
+
+/*
+ * Writes the pairs that load a screen and show it pop-on, as raw bytes with their parity bits, two a pair, from the first byte of
+ * out on. The screen has the form that loikrasun_view gives. It is writable if the cells of each row that are not empty share one
+ * pen without flash, with italics only in white, and none is 80h. A desk in any valid state that has the channel selected, 1 or 2,
+ * and acts enough left, displays that very screen once it has taken all the pairs. Value: how many bytes they are; those of out
+ * behind them stay as they were. Refused with 1, for out too, 6, 2 or 7.
+ */
+uint32_t loikrasun_tape(const uint8_t *screen, size_t screen_length, uint8_t channel, uint8_t *out, size_t out_length);
 
 #ifdef __cplusplus
 }

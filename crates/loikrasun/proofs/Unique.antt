@@ -7,6 +7,7 @@ use Rattle.wire.specs.Written.{writeLineOf}
 use Rattle.standing.specs.Calls.{openOf, takeOf, selectOf, backOf}
 use Rattle.replay.specs.Captions.{captionDecoder}
 use Rattle.desk.specs.Looks.{rowOf}
+use Rattle.writer.specs.Write.{writeTapeOf}
 use Rattle.loikrasun.specs.Packed.{packedOf, givenLine, Ended, ended, endedOf, Filled, filled, writtenOf, viewedOf}
 
 -- two ends of a call that is lent desk, log and tray
@@ -64,6 +65,9 @@ view-only d out = filled-only (viewedOf d out)
 
 pub line-write-only : (out : List ℕ) (first second : ℕ) → OneFilled (writtenOf (writeLineOf out first second))
 line-write-only out first second = filled-only (writtenOf (writeLineOf out first second))
+
+pub tape-only : (memory : List ℕ) (channel : ℕ) (out : List ℕ) → OneFilled (writtenOf (writeTapeOf memory channel out))
+tape-only memory channel out = filled-only (writtenOf (writeTapeOf memory channel out))
 
 -- the calls that only look
 pub row-only : (d : List ℕ) (row : ℕ) → OneResult (packedOf (rowOf d row))

@@ -1,5 +1,5 @@
 -- An exported call gives the paper's number and value as one number, beside the buffers that the call leaves.
--- Paper 01, "Numbers given back": the columns "No." and "Gives"; "A refusal changes no byte."
+-- Paper 01, "Numbers given back": the columns "No." and "Gives"; "A refusal changes no byte."; Paper 02, request 1: "Refusals: 7 for a screen not writable".
 -- Assumes nothing.
 use Prim.Native.Nat.{ℕ, _+_, _*_, _/_, _%_}
 use mathlib.Core.List.{List}
@@ -13,6 +13,8 @@ use Rattle.wire.specs.Numbers.{numberOfLine, valueOfLine, numberOfWritten, valu
 use Rattle.wire.specs.Written as written
 use Rattle.standing.specs.Calls.{Buffers, three, Given, gives, Outcome}
 use Rattle.desk.specs.Looks.{viewOf, viewNumberOf}
+use Rattle.writer.specs.declared.Answer.{Answer}
+use Rattle.writer.specs.Write.{numberOfTape, valueOfTape}
 
 -- one number for two: the paper's number times 65,536, plus the value
 unfoldable pub packedOf : Given → ℕ
@@ -25,12 +27,15 @@ numberIn packed = packed / 65536
 abbrev pub valueIn : ℕ → ℕ
 valueIn packed = packed % 65536
 
--- what is given for a frame line read, and for one written
+-- what is given for a frame line read, for one written, and for a tape
 abbrev pub givenLine : Line → Given
 givenLine line = gives (numberOfLine line) (valueOfLine line)
 
 abbrev pub givenWritten : Written → Given
 givenWritten w = gives (numberOfWritten w) (valueOfWritten w)
+
+abbrev pub givenTape : Answer → Given
+givenTape r = gives (numberOfTape r) (valueOfTape r)
 
 -- what a call that is lent desk, log and tray gives and leaves
 pub record Ended : Type 0 where
@@ -52,7 +57,7 @@ pub record Filled : Type 0 where
 abbrev pub filled : ℕ → List ℕ → Filled
 filled result out = record { result = result; out = out }
 
--- a frame line written
+-- a frame line or a tape written
 abbrev pub writtenOf : written.Outcome → Filled
 writtenOf o = filled (packedOf (gives (o .number) (o .value))) (o .out)
 

@@ -10,7 +10,8 @@ ghost use Rattle.standing.specs.Calls.{gives, openOf, takeOf, selectOf, backOf}
 ghost use Rattle.replay.specs.Captions.{captionDecoder};
 ghost use Rattle.desk.specs.Numbers.{given};
 ghost use Rattle.desk.specs.Looks.{rowOf};
-ghost use Rattle.loikrasun.specs.Packed.{packedOf, givenWritten, givenLine, ended, endedOf, filled, writtenOf, viewedOf};
+ghost use Rattle.writer.specs.Write.{writeTapeOf};
+ghost use Rattle.loikrasun.specs.Packed.{packedOf, givenWritten, givenLine, givenTape, ended, endedOf, filled, writtenOf, viewedOf};
 
 // The paper's number times 65,536, plus the value.
 fn pack(number: u16, value: u16) -> u32
@@ -48,6 +49,18 @@ fn pack_line(line: Line) -> u32
         Line::Pair(first, second) => pack(0, first as u16 * 256 + second as u16),
         Line::End => pack(0, 0),
         Line::Bad => pack(5, 0),
+    }
+}
+
+fn pack_tape(answer: writer::Answer) -> u32
+    ensures { λ r. ⌜ r ≡ packedOf (givenTape answer) ⌝ }
+{
+    match answer {
+        writer::Answer::Done(value) => pack(0, value),
+        writer::Answer::WrongLength => pack(1, 0),
+        writer::Answer::NoSuch => pack(2, 0),
+        writer::Answer::Invalid => pack(6, 0),
+        writer::Answer::NotWritable => pack(7, 0),
     }
 }
 
@@ -126,4 +139,12 @@ pub extern "C" fn loikrasun_line_read(reel: &[u8]) -> u32
     ensures { λ r. ⌜ r ≡ packedOf (givenLine (lineAt (now (reel .entry)) 0)) ⌝ }
 {
     pack_line(wire::read_line(reel, 0))
+}
+
+// The tape of a screen on a channel, from the first byte of `out` on; the value is how many bytes it has.
+#[no_mangle]
+pub extern "C" fn loikrasun_tape(memory: &[u8], channel: u8, out: &mut [u8]) -> u32
+    ensures { λ r. ⌜ filled r (now (out .exit)) ≡ writtenOf (writeTapeOf (now (memory .entry)) channel (now (out .entry))) ⌝ }
+{
+    pack_tape(writer::write_tape(memory, channel, out))
 }
