@@ -1,0 +1,2 @@
+-- What the proofs of `frames` rest on.
+pub mod Laws
