@@ -1,6 +1,5 @@
 // Prints the register of the reel on standard input, and nothing else. All that is printed is worked out in `walk`, by the definitions of `runs`.
 // A read that fails prints no register, a write that fails ends it; either says why on standard error.
-use libc::STDIN_FILENO;
 use libc::STDOUT_FILENO;
 use walk::END;
 ghost use mathlib.Core.Bool.{false};
@@ -9,50 +8,10 @@ ghost use Prim.Native.Nat.{_+_, _≤_};
 ghost use lib.ListN.{length};
 ghost use Rattle.runs.specs.Register.{registerOf};
 
-// How many bytes of the reel there are, how many of them the last read brought, and whether it failed.
-struct Got {
-    n: usize,
-    came: usize,
-    failed: bool,
-}
-
 // How many bytes of the register have gone out, and whether a write failed.
 struct Sent {
     n: usize,
     failed: bool,
-}
-
-// One read, behind the first `n` bytes of the reel. At the end of the input none come.
-fn read_more(reel: &mut [u8], n: usize) -> Got
-    requires { ⌜ n ≤ length (now reel) ⌝ }
-    ensures { λ r. ⌜ (r .n ≤ length (now (reel .entry))) × (r .n ≡ n + r .came) ⌝ }
-{
-    let got = libc::read(STDIN_FILENO, &mut reel[n..]);
-    if got < 0 {
-        os::fail(b"cannot read the reel");
-        return Got {
-            n,
-            came: 0,
-            failed: true,
-        };
-    }
-    let came = io::count(got, &reel[n..]);
-    Got {
-        n: n + came,
-        came,
-        failed: false,
-    }
-}
-
-// Read after read, until the input ends, the reel is full or a read fails.
-fn read_reel(reel: &mut [u8]) -> Got
-    ensures { λ r. ⌜ r .n ≤ length (now (reel .entry)) ⌝ }
-{
-    let mut got = read_more(reel, 0);
-    while (0 < got.came) & (got.n < reel.len()) {
-        got = read_more(reel, got.n);
-    }
-    got
 }
 
 // One piece more: what goes out is counted here and nowhere else. A register has at most 16,002 pieces of 65,536 bytes.
@@ -97,7 +56,7 @@ fn print(reel: &[u8]) -> Sent
 // 16,000 lines have 80,000 bytes: one byte more is refused, so no more is read.
 fn main() {
     let mut reel = [0u8; 80001];
-    let got = read_reel(&mut reel);
+    let got = input::read_all(&mut reel, b"cannot read the reel");
     let n = got.n;
     if !got.failed {
         print(&reel[..n]);

@@ -10,4 +10,4 @@ slice-aggregate-print : tie.Need-slice-aggregate-print
 slice-aggregate-print c = sym (length-take-le _ _ (omega arith))
 
 pub main-spec : {M : Type 1} → statement M
-main-spec = tie.close (tie.spec (λ c. search needs) (λ c κs. search needs) (λ c. search needs) slice-aggregate-print (λ c κs. search needs) (λ c. search needs) (λ c. search needs))
+main-spec = tie.close (tie.spec (λ c. search needs) (λ c. search needs) (λ c κs. search needs) (λ c. search needs) slice-aggregate-print (λ c κs. search needs) (λ c. search needs) (λ c. search needs))

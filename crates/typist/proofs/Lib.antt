@@ -1,0 +1,2 @@
+-- The laws of `typist`.
+pub mod Laws

@@ -1,0 +1,2 @@
+-- The definitions of `typist`: how much is printed.
+pub mod Printed
