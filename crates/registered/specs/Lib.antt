@@ -1,0 +1,2 @@
+-- The definitions of `registered`.
+pub mod Turns
