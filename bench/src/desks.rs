@@ -7,7 +7,7 @@ use gen::traffic::Pair;
 use paper::decode::Decoder;
 use paper::desk::{LOG_BYTES, RECORD_BYTES, TRAY_BYTES};
 
-use crate::timing::{compare, seconds};
+use crate::timing::{compare_sure, seconds};
 
 /// The acts of a stretch between two slots, but one.
 const STRETCH: usize = 999;
@@ -79,17 +79,6 @@ fn each<T>(all: &mut [T], mut act: impl FnMut(&mut T)) -> Result<f64, Infallible
     })
 }
 
-/// The ratio of two that cannot fail.
-fn ratio(
-    ours: impl FnMut() -> Result<f64, Infallible>,
-    theirs: impl FnMut() -> Result<f64, Infallible>,
-) -> f64 {
-    match compare(ours, theirs) {
-        Ok(both) => both.ratio,
-        Err(never) => match never {},
-    }
-}
-
 /// Decoding alone: what the archive's step back by none takes for 999 acts
 /// more than for none, beside a plain decoder given the same pairs.
 pub fn decode(pairs: &[Pair]) -> f64 {
@@ -97,7 +86,7 @@ pub fn decode(pairs: &[Pair]) -> f64 {
     let mut full: Vec<Desk> = stretches.iter().map(|pairs| Desk::after(pairs)).collect();
     let mut none: Vec<Desk> = stretches.iter().map(|_| Desk::after(&[])).collect();
     let mut plain = stretches;
-    ratio(
+    let both = compare_sure(
         || Ok(each(&mut full, Desk::remake)? - each(&mut none, Desk::remake)?),
         || {
             each(&mut plain, |pairs| {
@@ -108,14 +97,15 @@ pub fn decode(pairs: &[Pair]) -> f64 {
                 black_box(&decoder);
             })
         },
-    )
+    );
+    both.ratio
 }
 
 /// A take with its check of the record, for each of these pairs.
 pub fn take(pairs: &[Pair]) -> f64 {
     let mut desks = [Desk::after(&[])];
     let mut plain = [Desk::after(&[])];
-    ratio(
+    let both = compare_sure(
         || {
             desks = [Desk::after(&[])];
             each(&mut desks, |desk| desk.take(pairs))
@@ -124,7 +114,8 @@ pub fn take(pairs: &[Pair]) -> f64 {
             plain = [Desk::after(&[])];
             each(&mut plain, |desk| desk.take_plainly(pairs))
         },
-    )
+    );
+    both.ratio
 }
 
 /// A step back by none with 999 acts behind a slot.
@@ -132,8 +123,9 @@ pub fn back(pairs: &[Pair]) -> f64 {
     let starts: Vec<&[Pair]> = pairs.chunks_exact(1_000 + STRETCH).collect();
     let mut desks: Vec<Desk> = starts.iter().map(|pairs| Desk::after(pairs)).collect();
     let mut plain: Vec<Desk> = starts.iter().map(|pairs| Desk::after(pairs)).collect();
-    ratio(
+    let both = compare_sure(
         || each(&mut desks, Desk::remake),
         || each(&mut plain, Desk::remake_plainly),
-    )
+    );
+    both.ratio
 }

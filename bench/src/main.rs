@@ -14,6 +14,7 @@
 
 mod desks;
 mod processes;
+mod tapes;
 mod timing;
 
 use std::env;
@@ -52,6 +53,15 @@ fn print_desks() {
     }
 }
 
+/// The tapes of the dearest screen and of a caption of two rows.
+fn print_tapes() {
+    for (screen, memory) in [("full", tapes::dearest()), ("two", tapes::caption())] {
+        let both = tapes::tape(&memory);
+        print("tape", screen, both.ratio, "-");
+        println!("    {} ns a tape", both.ours.as_nanos());
+    }
+}
+
 /// The register as a process, and how its time grows with the frames.
 fn print_registers(ours: &Path, theirs: &Path) -> std::io::Result<()> {
     for (traffic, pairs) in inputs() {
@@ -73,6 +83,7 @@ fn main() -> ExitCode {
     let words: Vec<String> = env::args().skip(1).collect();
     println!("{:<28} {:<6} {:>6}  target", "", "input", "ratio");
     print_desks();
+    print_tapes();
     let [ours, theirs] = words.as_slice() else {
         return ExitCode::SUCCESS;
     };

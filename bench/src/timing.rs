@@ -1,5 +1,6 @@
 //! Two ways of doing the same, timed in turn.
 
+use std::convert::Infallible;
 use std::time::{Duration, Instant};
 
 /// How often each of the two is timed.
@@ -44,4 +45,15 @@ pub fn compare<E>(
         ratio: median(ratios),
         ours: Duration::from_secs_f64(median(times)),
     })
+}
+
+/// Times two that cannot fail.
+pub fn compare_sure(
+    ours: impl FnMut() -> Result<f64, Infallible>,
+    theirs: impl FnMut() -> Result<f64, Infallible>,
+) -> Both {
+    match compare(ours, theirs) {
+        Ok(both) => both,
+        Err(never) => match never {},
+    }
 }

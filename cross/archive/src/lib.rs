@@ -70,6 +70,14 @@ extern "C" {
     fn loikrasun_line_write(out: *mut u8, out_length: usize, first: u8, second: u8) -> u32;
 
     fn loikrasun_line_read(reel: *const u8, reel_length: usize) -> u32;
+
+    fn loikrasun_tape(
+        memory: *const u8,
+        memory_length: usize,
+        channel: u8,
+        out: *mut u8,
+        out_length: usize,
+    ) -> u32;
 }
 
 /// Bytes of a desk's record.
@@ -82,10 +90,12 @@ pub const TRAY_LENGTH: usize = 31_744;
 pub const VIEW_LENGTH: usize = 960;
 /// Bytes of a frame line.
 pub const LINE_LENGTH: usize = 5;
+/// Bytes that a tape is written into.
+pub const TAPE_LENGTH: usize = 4096;
 /// The most acts that can stand.
 pub const MOST_ACTS: u32 = 16_000;
 
-/// The paper's number in a result: 0 for done, 1 to 6 for a refusal.
+/// The paper's number in a result: 0 for done, 1 to 7 for a refusal.
 pub fn number(result: u32) -> u32 {
     result / 65536
 }
@@ -187,4 +197,19 @@ pub fn line_write(out: &mut [u8], first: u8, second: u8) -> u32 {
 pub fn line_read(reel: &[u8]) -> u32 {
     // SAFETY: a pointer with the length of a live slice, see above.
     unsafe { loikrasun_line_read(reel.as_ptr(), reel.len()) }
+}
+
+/// `loikrasun_tape`: a memory of 960 bytes, channel 1 or 2, and 4,096 bytes for
+/// the pairs that load and show that memory.
+pub fn tape(memory: &[u8], channel: u8, out: &mut [u8]) -> u32 {
+    // SAFETY: pointers with the lengths of live slices, see above.
+    unsafe {
+        loikrasun_tape(
+            memory.as_ptr(),
+            memory.len(),
+            channel,
+            out.as_mut_ptr(),
+            out.len(),
+        )
+    }
 }

@@ -2,7 +2,7 @@
 
 use paper::numbers::packed;
 
-/// The eight calls, by the signatures of the exported functions. A result is the
+/// The nine calls, by the signatures of the exported functions. A result is the
 /// paper's number times 65,536, plus the value.
 pub trait Machine {
     /// Opens the desk.
@@ -21,6 +21,8 @@ pub trait Machine {
     fn line_write(&self, out: &mut [u8], first: u8, second: u8) -> u32;
     /// Reads the first frame line.
     fn line_read(&self, reel: &[u8]) -> u32;
+    /// Writes the tape of a memory.
+    fn tape(&self, memory: &[u8], channel: u8, out: &mut [u8]) -> u32;
 }
 
 /// The implementation from the paper alone.
@@ -58,6 +60,10 @@ impl Machine for Paper {
 
     fn line_read(&self, reel: &[u8]) -> u32 {
         packed(paper::lines::read(reel))
+    }
+
+    fn tape(&self, memory: &[u8], channel: u8, out: &mut [u8]) -> u32 {
+        packed(paper::tape::tape(memory, channel, out))
     }
 }
 
@@ -98,6 +104,10 @@ impl Machine for Archive {
 
     fn line_read(&self, reel: &[u8]) -> u32 {
         archive::line_read(reel)
+    }
+
+    fn tape(&self, memory: &[u8], channel: u8, out: &mut [u8]) -> u32 {
+        archive::tape(memory, channel, out)
     }
 }
 

@@ -1,9 +1,11 @@
 //! Runs scripts of calls on the desk written from the paper alone and, with
 //! the feature `archive`, on `libloikrasun.a` beside it; compares number,
-//! value and every byte of the buffers after every call.
+//! value and every byte of the buffers after every call. Tapes are judged and
+//! played besides, reels and texts go through whole programs.
 //!
 //! ```text
-//! check [--calls N] [--seed S] [--register COMMAND]
+//! check [--calls N] [--screens N] [--texts N] [--seed S]
+//!       [--register COMMAND] [--typist COMMAND]
 //! ```
 //!
 //! COMMAND is a program and its arguments, with spaces between.
@@ -13,30 +15,38 @@
 #![forbid(unsafe_code)]
 
 mod machine;
+mod programs;
 mod registers;
 mod run;
+mod share;
 mod shrink;
 #[cfg(test)]
 mod slips;
+mod tapes;
+mod texts;
 
 use std::fmt;
 use std::process::ExitCode;
-use std::thread;
 
 use gen::reels::reels;
 use gen::script::{script, Step};
 
 use machine::{Machine, Paper, OTHER};
 use run::Difference;
+use share::{shared, WORKERS};
 
-const USAGE: &str = "check [--calls N] [--seed S] [--register COMMAND]";
+const USAGE: &str = "check [--calls N] [--screens N] [--texts N] [--seed S] \
+                     [--register COMMAND] [--typist COMMAND]";
 
 /// What the command line asks for.
 #[derive(Clone, Debug, PartialEq, Eq)]
 struct Options {
     calls: u64,
+    screens: u64,
+    texts: u64,
     seed: u64,
     register: Option<String>,
+    typist: Option<String>,
 }
 
 impl Options {
@@ -44,15 +54,21 @@ impl Options {
     fn read(mut words: impl Iterator<Item = String>) -> Option<Options> {
         let mut options = Options {
             calls: 200_000,
+            screens: 20_000,
+            texts: 100,
             seed: 1,
             register: None,
+            typist: None,
         };
         while let Some(word) = words.next() {
             let value = words.next()?;
             match word.as_str() {
                 "--calls" => options.calls = value.parse().ok()?,
+                "--screens" => options.screens = value.parse().ok()?,
+                "--texts" => options.texts = value.parse().ok()?,
                 "--seed" => options.seed = value.parse().ok()?,
                 "--register" => options.register = Some(value),
+                "--typist" => options.typist = Some(value),
                 _ => return None,
             }
         }
@@ -89,26 +105,17 @@ impl fmt::Display for Found {
     }
 }
 
-/// How many threads share the scripts.
-const WORKERS: u64 = 2;
-
 /// Runs scripts until so many calls are made or a difference is found. Each
-/// worker has scripts of its own, and the first worker's find is the one told.
+/// worker has scripts of its own.
 fn run_scripts(
     left: &(impl Machine + Sync),
     right: &(impl Machine + Sync),
     calls: u64,
     seed: u64,
 ) -> Result<u64, Found> {
-    thread::scope(|scope| {
-        let share = |worker| (calls + worker) / WORKERS;
-        let run = |worker| move || run_share(left, right, share(worker), seed, worker);
-        let workers: Vec<_> = (0..WORKERS)
-            .map(|worker| scope.spawn(run(worker)))
-            .collect();
-        let made = |worker: thread::ScopedJoinHandle<_>| worker.join().expect("no worker panics");
-        workers.into_iter().map(made).sum()
-    })
+    let share = |worker| (calls + worker) / WORKERS;
+    let made = shared(|worker| run_share(left, right, share(worker), seed, worker))?;
+    Ok(made.into_iter().sum())
 }
 
 /// One worker's scripts: every so many, from its own number on.
@@ -178,20 +185,28 @@ fn run_reels(seed: u64, name: &str, other: impl Fn(&[u8]) -> Vec<u8>) -> Result<
 fn check(options: &Options) -> Result<String, String> {
     let calls = run_scripts(&Paper, &OTHER, options.calls, options.seed)
         .map_err(|found| found.to_string())?;
+    tapes::run(&OTHER, options.seed, options.screens)?;
+    let mut text = format!("{} tapes, 0 differences\n", options.screens);
     let reels = run_reels(options.seed, "by calls", |reel| {
         registers::by_calls(&OTHER, reel)
     })?;
-    let mut text = format!("{reels} reels by calls, 0 differences\n");
+    text += &format!("{reels} reels by calls, 0 differences\n");
     if let Some(command) = &options.register {
         let reels = run_reels(options.seed, "by program", |reel| printed(command, reel))?;
         text += &format!("{reels} reels by program, 0 differences\n");
     }
+    let texts = texts::run(options.typist.as_deref(), options.seed, options.texts)?;
+    let by = options.typist.as_ref().map_or("", |_| " by program");
+    text += &format!("{texts} texts{by}, 0 differences\n");
     Ok(text + &format!("{calls} calls, 0 differences\n"))
 }
 
 /// What the command prints; a command that does not run prints its error.
 fn printed(command: &str, reel: &[u8]) -> Vec<u8> {
-    registers::by_program(command, reel).unwrap_or_else(|error| error.to_string().into_bytes())
+    programs::run(command, reel).map_or_else(
+        |error| error.to_string().into_bytes(),
+        |output| output.stdout,
+    )
 }
 
 /// Prints what was found; ends with 1 on a difference, 2 on a wrong option.

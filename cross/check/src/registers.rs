@@ -1,9 +1,4 @@
-//! Registers: the paper's beside one made by the calls of a machine, and
-//! beside another program's.
-
-use std::io::{self, Write};
-use std::process::{Command, Stdio};
-use std::thread;
+//! Registers: one made by the calls of a machine.
 
 use gen::script::{Buffers, LINE_BYTES, LOG_BYTES, MOST_ACTS, TRAY_BYTES, VIEW_BYTES};
 
@@ -68,22 +63,6 @@ fn codes(cells: &[u8]) -> Option<String> {
     let last = cells.chunks_exact(2).rposition(|cell| !empty(cell))?;
     let shown = cells.chunks(2).take(last + 1).skip(first);
     Some(shown.map(|cell| format!("{:02X}", cell[0])).collect())
-}
-
-/// What a command, a program and its arguments, prints for a reel on its
-/// standard input.
-pub fn by_program(command: &str, reel: &[u8]) -> io::Result<Vec<u8>> {
-    let mut words = command.split_whitespace();
-    let mut child = Command::new(words.next().unwrap_or_default())
-        .args(words)
-        .stdin(Stdio::piped())
-        .stdout(Stdio::piped())
-        .spawn()?;
-    let input = child.stdin.take();
-    thread::scope(|scope| {
-        scope.spawn(move || input.map(|mut input| input.write_all(reel)));
-        Ok(child.wait_with_output()?.stdout)
-    })
 }
 
 #[cfg(test)]

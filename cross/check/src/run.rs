@@ -92,7 +92,7 @@ fn keep(to: &mut Buffers, from: &Buffers) {
 }
 
 /// A result as number and value.
-fn answer(result: u32) -> String {
+pub fn answer(result: u32) -> String {
     format!("number {} value {}", result >> 16, result & 0xFFFF)
 }
 

@@ -1,11 +1,14 @@
 //! Desks with one slip each, to show that the scripts find every slip and that
 //! the script in the report is short.
 
+mod tapes;
+
 use paper::bytes::good;
 use paper::codes::assigned;
 
 use crate::machine::{Machine, Paper};
 use crate::run_scripts;
+use tapes::TapeSlip;
 
 /// A slip. The first four are the paper's own list, as far as calls show them.
 #[derive(Clone, Copy, Debug, PartialEq, Eq)]
@@ -33,6 +36,7 @@ enum Slip {
     ZeroBytesNotChecked,
     NoSlotAtSixteenThousand,
     PreambleKeepsFlash,
+    Tape(TapeSlip),
 }
 
 const SLIPS: [Slip; 23] = [
@@ -219,6 +223,13 @@ impl Machine for Slipped {
             _ => {}
         }
         Paper.line_read(&reel)
+    }
+
+    fn tape(&self, memory: &[u8], channel: u8, out: &mut [u8]) -> u32 {
+        match self.0 {
+            Slip::Tape(slip) => tapes::tape(slip, memory, channel, out),
+            _ => Paper.tape(memory, channel, out),
+        }
     }
 }
 

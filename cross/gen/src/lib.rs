@@ -9,6 +9,8 @@
 //! - [`records`]: records that are valid though no run reaches them, and damage
 //! - [`script`]: whole scripts of calls
 //! - [`reels`]: reels for the register, good and bad
+//! - [`screens`]: memories to be written as tapes, and those that cannot be
+//! - [`texts`]: texts that reels are made from, good and bad
 
 #![forbid(unsafe_code)]
 #![warn(missing_docs)]
@@ -16,5 +18,7 @@
 pub mod prng;
 pub mod records;
 pub mod reels;
+pub mod screens;
 pub mod script;
+pub mod texts;
 pub mod traffic;

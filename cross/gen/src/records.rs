@@ -48,6 +48,30 @@ pub fn odd_record(seed: u64, acts: u16) -> Vec<u8> {
     record
 }
 
+/// A valid record that these raw bytes, pair by pair, are played on: this
+/// channel is selected, Text is on often, and often a control pair of these
+/// bytes is expected, their first and last ones most of all.
+pub fn playing_record(prng: &mut Prng, acts: u16, channel: u8, tape: &[u8]) -> Vec<u8> {
+    let mut record = odd_record(prng.bits(), acts);
+    record[2] = channel;
+    if prng.percent(30) {
+        record[5] = 1;
+    }
+    let last = tape.len() / 2 - 1;
+    let place = match prng.below(6) {
+        0 => 0,
+        1 => 2,
+        2 => last,
+        3 => prng.within(0, last),
+        _ => return record,
+    };
+    let pair = [tape[2 * place] & 0x7F, tape[2 * place + 1] & 0x7F];
+    if (0x10..0x20).contains(&pair[0]) {
+        record[17..19].copy_from_slice(&pair);
+    }
+    record
+}
+
 /// Any column, the edges often.
 fn column(prng: &mut Prng) -> u8 {
     if prng.percent(60) {

@@ -10,9 +10,27 @@ pub fn low_seven(byte: u8) -> u8 {
     byte & 0x7F
 }
 
+/// "A byte is good if it has an odd number of one bits among its eight": the
+/// good byte with these low seven bits.
+pub fn odd(low: u8) -> u8 {
+    if good(low) {
+        low
+    } else {
+        low | 0x80
+    }
+}
+
 #[cfg(test)]
 mod tests {
     use super::*;
+
+    #[test]
+    fn every_low_seven_is_found_again_in_its_good_byte() {
+        for low in 0..=0x7F {
+            assert!(good(odd(low)), "{low:02X}");
+            assert_eq!(low_seven(odd(low)), low);
+        }
+    }
 
     #[test]
     fn every_byte_is_good_exactly_when_its_ones_counted_one_by_one_are_odd() {

@@ -34,7 +34,20 @@ pub type Grid = [Row; ROWS];
 /// "An empty cell is 0, 0".
 pub const EMPTY: Cell = Cell { code: 0, pen: 0 };
 const EMPTY_ROW: Row = [EMPTY; COLUMNS];
-const EMPTY_GRID: Grid = [EMPTY_ROW; ROWS];
+/// A memory without a cell that is not empty.
+pub const EMPTY_GRID: Grid = [EMPTY_ROW; ROWS];
+
+/// "displayed cells are equal in every byte": row by row, each row without a
+/// branch, so that it is compared in wide words.
+pub fn equal(left: &Grid, right: &Grid) -> bool {
+    let cells = |left: &Row, right: &Row| {
+        let pairs = left.iter().zip(right);
+        pairs.fold(true, |equal, (left, right)| equal & (left == right))
+    };
+    left.iter()
+        .zip(right)
+        .all(|(left, right)| cells(left, right))
+}
 
 /// "style (0 none, 1 roll-up, 2 pop-on, 3 paint-on)"; none is `Option::None`.
 #[derive(Clone, Copy, Debug, PartialEq, Eq)]

@@ -11,6 +11,7 @@ use std::ops::Range;
 use crate::decode::{Row, EMPTY};
 use crate::numbers::{Answer, Refusal};
 
+pub(crate) use record::read_grid;
 pub use record::Standing;
 
 /// "The desk is one record of 1,984 bytes".

@@ -9,9 +9,12 @@
 //! - [`codes`]: what a control pair means
 //! - [`decode`]: the pair rules and what the codes do, on a plain struct
 //! - [`desk`]: record, log and tray on lent slices, with refusals
+//! - [`judge`]: a tape of anyone's making, held against the request
 //! - [`lines`]: frame lines and the reader of a reel
 //! - [`numbers`]: the numbers given back
 //! - [`register`]: reel in, register out
+//! - [`tape`]: the pairs that load and show a memory
+//! - [`texts`]: text in, reel out (docs/TAPES.md)
 
 #![forbid(unsafe_code)]
 #![warn(missing_docs)]
@@ -20,6 +23,9 @@ pub mod bytes;
 pub mod codes;
 pub mod decode;
 pub mod desk;
+pub mod judge;
 pub mod lines;
 pub mod numbers;
 pub mod register;
+pub mod tape;
+pub mod texts;

@@ -1,4 +1,4 @@
-//! "Numbers given back": one enum for the six refusals, and the packed form.
+//! "Numbers given back": one enum for the seven refusals, and the packed form.
 
 /// A refusal of the table "Numbers given back". Number 0, "done", is `Ok`.
 #[derive(Clone, Copy, Debug, PartialEq, Eq)]
@@ -16,6 +16,8 @@ pub enum Refusal {
     Line = 5,
     /// 6: "desk invalid; in back, start or a needed act invalid".
     Invalid = 6,
+    /// 7: "for a screen not writable".
+    Unwritable = 7,
 }
 
 impl Refusal {
@@ -48,5 +50,6 @@ mod tests {
         assert_eq!(packed(Ok(0xFFFF)), 0xFFFF);
         assert_eq!(packed(Err(Refusal::Length)), 65_536);
         assert_eq!(packed(Err(Refusal::Invalid)), 6 * 65_536);
+        assert_eq!(packed(Err(Refusal::Unwritable)), 7 * 65_536);
     }
 }

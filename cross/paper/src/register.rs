@@ -1,15 +1,12 @@
 //! "Reel and register": the bytes of a reel in, the register's text out.
 
-use crate::decode::{Cell, Decoder, Grid, Row, COLUMNS, EMPTY, ROWS};
+use crate::decode::{equal, Cell, Decoder, Grid, EMPTY, EMPTY_GRID};
 use crate::desk::MOST_ACTS;
 use crate::lines::{digits, Reader};
 use crate::numbers::Refusal;
 
 /// The first line of every register, as printed in the paper's example.
 const HEADER: &[u8] = b"from to row codes\n";
-
-/// "not all empty": the screen that opens no run.
-const BLANK: Grid = [[EMPTY; COLUMNS]; ROWS];
 
 /// "A run is a longest stretch of frames whose displayed cells are equal in
 /// every byte and not all empty": the run that stands open.
@@ -72,7 +69,7 @@ impl Register {
             return;
         }
         self.close(frame - 1);
-        if !equal(screen, &BLANK) {
+        if !equal(screen, &EMPTY_GRID) {
             self.open = Some(Run {
                 first: frame,
                 screen: *screen,
@@ -110,18 +107,6 @@ impl Register {
         let line = format!("refused {frame:05} {}\n", refusal.number());
         self.text.extend_from_slice(line.as_bytes());
     }
-}
-
-/// "displayed cells are equal in every byte": row by row, each row without a
-/// branch, so that it is compared in wide words.
-fn equal(left: &Grid, right: &Grid) -> bool {
-    let cells = |left: &Row, right: &Row| {
-        let pairs = left.iter().zip(right);
-        pairs.fold(true, |equal, (left, right)| equal & (left == right))
-    };
-    left.iter()
-        .zip(right)
-        .all(|(left, right)| cells(left, right))
 }
 
 /// "from the first to the last non-empty cell": those cells, if there is one.

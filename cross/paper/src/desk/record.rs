@@ -175,7 +175,7 @@ fn cell_valid(cell: Cell) -> bool {
 
 /// "row by row, two bytes a cell, code then pen": the cells, and whether all
 /// of them are valid.
-fn read_grid(bytes: &[u8], grid: &mut Grid) -> bool {
+pub(crate) fn read_grid(bytes: &[u8], grid: &mut Grid) -> bool {
     let mut valid = true;
     for (row, bytes) in grid.iter_mut().zip(bytes.chunks_exact(2 * COLUMNS)) {
         for (cell, bytes) in row.iter_mut().zip(bytes.chunks_exact(2)) {
