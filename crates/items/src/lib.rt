@@ -9,7 +9,7 @@ ghost use Rattle.tape.specs.Item.{gapOf, nextItemOf, bytesOf};
 ghost use Rattle.tape.specs.Preamble.{styleOf, indentOf, preambleItemOf};
 ghost use Rattle.items.specs.Laid.{Laid};
 
-// Resume caption loading, erase the non-displayed memory, end of caption: what a tape has beside its rows.
+// Resume caption loading, erase the non-displayed memory, end of caption: what a tape has beside its rows. Erase displayed memory ends what it shows.
 pub const RCL: Item = Item {
     first: 0x14,
     second: 0x20,
@@ -25,6 +25,12 @@ pub const ENM: Item = Item {
 pub const EOC: Item = Item {
     first: 0x14,
     second: 0x2f,
+    columns: 0,
+};
+
+pub const EDM: Item = Item {
+    first: 0x14,
+    second: 0x2c,
     columns: 0,
 };
 

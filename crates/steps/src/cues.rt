@@ -1,7 +1,6 @@
 // Screens shown, the display cleared, and frames that say nothing, each at its frame.
 use crate::Hand;
 use crate::Plan;
-use tape::Item;
 use writer::Answer;
 ghost use mathlib.Core.Path.{_≡_};
 ghost use mathlib.Core.Bool.{true, _&&_};
@@ -13,13 +12,6 @@ ghost use Rattle.tape.specs.Tape.{tapeOf};
 ghost use Rattle.writer.specs.Write.{valueOfTape};
 ghost use Rattle.steps.specs.Take.{showOf, clearOf, waitOf};
 ghost use Rattle.steps.specs.Hand.{Fit, Does, planOf};
-
-// Erase displayed memory.
-const EDM: Item = Item {
-    first: 0x14,
-    second: 0x2c,
-    columns: 0,
-};
 
 // How far `a` is behind `b`; 0 where it is not.
 fn behind(a: usize, b: usize) -> usize
@@ -117,7 +109,7 @@ pub fn clear(hand: Hand, out: &mut [u8], frame: usize) -> Hand
     let plan = plan(frames, 2, frame);
     if plan.wrong == 0 {
         let mut raw = [0u8; 4];
-        items::put_item(&mut raw, 0, hand.channel, EDM);
+        items::put_item(&mut raw, 0, hand.channel, items::EDM);
         frames::put_held(out, frames * 5, &raw, plan.held);
         return hand.further(2 + plan.held);
     }
