@@ -1,4 +1,4 @@
-// Prints the register of the reel on standard input, and nothing else. All that is printed is worked out in `walk`, by the definitions of `runs`.
+// Prints the register of the reel on standard input, and nothing else. All that is printed is worked out in `pieces`, by the definitions of `runs`.
 // A read that fails prints no register, a write that fails ends it; either says why on standard error.
 use libc::STDOUT_FILENO;
 use walk::END;
