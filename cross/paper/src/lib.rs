@@ -13,6 +13,7 @@
 //! - [`lines`]: frame lines and the reader of a reel
 //! - [`numbers`]: the numbers given back
 //! - [`register`]: reel in, register out
+//! - [`sums`]: long bytes as the stored outputs tell them
 //! - [`tape`]: the pairs that load and show a memory
 //! - [`texts`]: text in, reel out (docs/TAPES.md)
 
@@ -27,5 +28,6 @@ pub mod judge;
 pub mod lines;
 pub mod numbers;
 pub mod register;
+pub mod sums;
 pub mod tape;
 pub mod texts;

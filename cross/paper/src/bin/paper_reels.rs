@@ -11,11 +11,10 @@
 use std::io::{self, Read, Write};
 use std::str;
 
+use paper::sums::sum;
+
 /// The longest register that is printed whole.
 const SCREENFUL: usize = 2000;
-
-/// The sums are taken modulo this prime, the largest below 2 to the 32.
-const PRIME: u64 = 4_294_967_291;
 
 /// One read, one write.
 fn main() -> io::Result<()> {
@@ -65,13 +64,6 @@ fn shown(register: Vec<u8>) -> Vec<u8> {
         sum(&register)
     );
     [told.as_bytes(), last.unwrap_or_default()].concat()
-}
-
-/// The number that the bytes are the digits of, in base 256, modulo the prime.
-fn sum(bytes: &[u8]) -> u64 {
-    bytes
-        .iter()
-        .fold(0, |sum, &byte| (sum * 256 + u64::from(byte)) % PRIME)
 }
 
 /// What stands before the first part between these two, the part, and what
