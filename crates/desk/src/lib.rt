@@ -102,14 +102,14 @@ pub fn back(desk: &mut [u8], log: &mut [u8], tray: &mut [u8], k: u32) -> Answer
     Answer::WrongLength
 }
 
-// How many cells of a displayed row are not empty.
+// How many cells of a displayed row are not empty: the record keeps the count.
 pub fn row(desk: &[u8], number: u8) -> Answer
     ensures { λ r. ⌜ given r ≡ rowOf (now (desk .entry)) number ⌝ }
 {
     if desk.len() == 1984 {
         if valid::is_valid(desk) {
             if (1 <= number) & (number <= 15) {
-                let filled = page::count_row(&desk[64..1984], page::DISPLAYED, Row(number));
+                let filled = record::read_count(desk, Row(number));
                 return Answer::Done(filled as u16);
             }
             return Answer::NoSuch;

@@ -5,7 +5,7 @@ use Prim.Native.Nat.{ℕ, zero, suc, _+_, _<_, _≤_}
 use native.Mathlib.Nat.{add-zero, zero-add, suc-add, not-suc-le-zero, le-of-suc-le-suc, suc-ne-zero}
 use native.Mathlib.Numerals.{add-one}
 use native.Mathlib.Omega.{arith}
-use lib.ListN.{length, getD, set, take, drop, length-drop}
+use lib.ListN.{length, getD, set, take, drop, length-drop, take-append-drop}
 use lib.Seq.{getD-drop, getD-take, take-suc, length-take-le}
 use borrow.Rule.Slice.PartMut.{putMid}
 use Rattle.facts.specs.Over.{over, part}
@@ -60,7 +60,7 @@ in-over (x ∷ d) zero (v ∷ s) zero h k = refl
 in-over (x ∷ d) zero (v ∷ s) (suc j) h k = rw (zero-add) (rw zero-add at (in-over d zero s j (omega arith) (le-of-suc-le-suc k)))
 
 -- one store right behind
-over-snoc : (d : List ℕ) (at : ℕ) (s : List ℕ) (n v : ℕ) → length s ≡ n → set (over d at s) (at + n) v ≡ over d at (s ++ (v ∷ []))
+pub over-snoc : (d : List ℕ) (at : ℕ) (s : List ℕ) (n v : ℕ) → length s ≡ n → set (over d at s) (at + n) v ≡ over d at (s ++ (v ∷ []))
 over-snoc [] at s n v e = refl
 over-snoc (x ∷ d) (suc at) s n v e = rw suc-add (ap (λ (l : List ℕ). x ∷ l) (over-snoc d at s n v e))
 over-snoc (x ∷ d) zero [] n v e = rw (zero-add, ← e) (ap (λ (l : List ℕ). v ∷ l) (sym (over-nil d zero)))
@@ -141,6 +141,11 @@ pub take-over-front : (z s : List ℕ) (n : ℕ) {x : List ℕ} → length s ≡
 take-over-front z s n {x} e h f =
     let k : n ≡ 0 + length s = omega arith in
     (λ i. take (k i) (f i)) ∙ front-over z 0 s (omega arith)
+
+-- and what stands behind it
+pub over-front : (d s : List ℕ) (n : ℕ) → length s ≡ n → n ≤ length d → over d 0 s ≡ s ++ drop n d
+over-front d s n e h =
+    sym (take-append-drop n (over d 0 s)) ∙ (λ i. take-over-front d s n e h refl i ++ drop-over d 0 s n (omega arith) i)
 
 -- A text written behind a text is one text.
 

@@ -3,10 +3,12 @@
 use cell::Column;
 use cell::Row;
 ghost use mathlib.Core.Path.{_≡_};
-ghost use Prim.Native.Nat.{_+_, _*_, _≤_};
+ghost use Prim.Native.Nat.{_+_, _*_, _%_, _≤_};
+ghost use lib.Dec.{eqb};
 ghost use lib.ListN.{length};
+ghost use Rattle.facts.specs.Choice.{pick};
 ghost use Rattle.cell.specs.Place.{OnScreen};
-ghost use Rattle.page.specs.Page.{Holds, writeCellOf, emptyCellOf, emptyFromOf, emptyRowsOf, emptyAllOf, exchangedOf, filledOf, filledFrom, countRowOf, isEmptyOf, sameScreenOf};
+ghost use Rattle.page.specs.Page.{Holds, writeCellOf, emptyCellOf, emptyFromOf, emptyRowsOf, emptyAllOf, exchangedOf, filledOf, filledFrom, isEmptyOf, sameScreenOf};
 
 pub const DISPLAYED: usize = 0;
 
@@ -60,22 +62,22 @@ pub fn exchange(cells: &mut [u8])
     facts::exchange(cells, NON_DISPLAYED);
 }
 
-fn filled(code: u8) -> u8
-    ensures { λ r. ⌜ (r ≡ filledOf code) × (r ≤ 1) ⌝ }
+// Byte i of a row counts where it is the code of a cell, and that cell is not empty.
+fn filled(byte: u8, i: usize) -> u8
+    ensures { λ r. ⌜ (r ≡ pick (eqb (i % 2) 0) (filledOf byte) 0) × (r ≤ 1) ⌝ }
 {
-    if code == 0 { 0 } else { 1 }
+    if (i % 2 == 0) & (byte != 0) { 1 } else { 0 }
 }
 
-// How many cells of a row are not empty.
-pub fn count_row(cells: &[u8], memory: usize, row: Row) -> u8
-    requires { ⌜ Holds memory (now cells) × (1 ≤ row .0) × (row .0 ≤ 15) ⌝ }
-    ensures { λ r. ⌜ (r ≡ countRowOf (now (cells .entry)) memory row) × (r ≤ 32) ⌝ }
+// How many of a row's 32 cells are not empty. Its bytes are taken one after the other, pens and all, so that the compiler can take many at a time.
+pub fn count_cells(cells: &[u8], at: usize) -> u8
+    requires { ⌜ at + 64 ≤ length (now cells) ⌝ }
+    ensures { λ r. ⌜ r ≡ filledFrom (now (cells .entry)) at 32 ⌝ }
 {
-    let at = cell::row_address(memory, row);
     let mut sum: u8 = 0;
     let mut i: usize = 0;
-    while i < 32 {
-        sum += filled(cells[at + i * 2]);
+    while i < 64 {
+        sum += filled(cells[at + i], i);
         i += 1;
     }
     sum

@@ -1,12 +1,17 @@
 -- The desk as one record of 1,984 bytes: which byte holds what, written and read.
--- Paper 01, "Record, log, tray", first paragraph, and the last sentence of the second.
+-- Paper 01, "Record, log, tray", first paragraph, and the last sentence of the second; paper 02, request 2 (the counts in bytes 19 to 48).
 -- Assumes nothing.
-use Prim.Native.Nat.{ℕ, _+_, _*_, _/_, _%_}
+use Prim.Native.Nat.{ℕ, zero, suc, _+_, _*_, _/_, _%_}
+use mathlib.Core.Bool.{Bool}
 use mathlib.Core.List.{List, [], _∷_, _++_}
 use lib.ListN.{getD, drop, replicate}
+use Rattle.facts.specs.Every.{sameOf}
+use Rattle.facts.specs.Over.{part}
+use Rattle.cell.specs.declared.Row.{Row}
 use Rattle.cell.specs.declared.Cursor.{Cursor}
 use Rattle.cell.specs.Place.{rowNumber, columnNumber}
 use Rattle.cell.specs.Cursor.{cursor}
+use Rattle.page.specs.Page.{displayed, nonDisplayed, countRowOf}
 use Rattle.state.specs.declared.State.{State}
 use Rattle.state.specs.State.{Desk, desk, mode, state}
 
@@ -26,9 +31,18 @@ fieldsOf s =
     -- "17–18 expected a, b with the channel still in a (0, 0 none)"
     ∷ s .first ∷ s .second ∷ []
 
--- "19–63 zero"
-unfoldable pub headOf : State → List ℕ
-headOf s = fieldsOf s ++ replicate 45 0
+-- "how many cells of each row are filled": of rows 1 to n of a memory
+abbrev pub countsIn : List ℕ → ℕ → ℕ → List ℕ
+countsIn cells memory zero = []
+countsIn cells memory (suc n) = countsIn cells memory n ++ (countRowOf cells memory (rowNumber (suc n)) ∷ [])
+
+-- request 2: "Keep the counts in the record, bytes 19 to 33 for the displayed rows, 34 to 48 for the others"
+unfoldable pub countsOf : List ℕ → List ℕ
+countsOf cells = countsIn cells displayed 15 ++ countsIn cells nonDisplayed 15
+
+-- bytes 0 to 63: the fields, the counts, and what is left of "19–63 zero"
+unfoldable pub headOf : Desk → List ℕ
+headOf d = fieldsOf (d .state) ++ (countsOf (d .cells) ++ replicate 15 0)
 
 -- "row, column, pen": three bytes from place `at` on
 abbrev pub cursorAt : List ℕ → ℕ → Cursor
@@ -46,11 +60,19 @@ stateOf bs =
 
 -- "64–1023 displayed, 1024–1983 non-displayed": the cells of a desk as they are
 abbrev pub recordOf : Desk → List ℕ
-recordOf d = headOf (d .state) ++ d .cells
+recordOf d = headOf d ++ d .cells
 
 -- and the desk of a record
 abbrev pub readOf : List ℕ → Desk
 readOf bs = desk (stateOf bs) (drop 64 bs)
+
+-- the counts of a record are right: they are those of its cells
+unfoldable pub areCounted : List ℕ → Bool
+areCounted bs = sameOf (part bs 19 30) (countsOf (drop 64 bs)) 30
+
+-- the count of a displayed row: byte 19 is row 1's
+abbrev pub countAt : List ℕ → Row → ℕ
+countAt bs row = getD bs (18 + row .0) 0
 
 -- "two bytes a cell, code then pen": cell k of those that begin at byte `at`
 abbrev pub codeAt : List ℕ → ℕ → ℕ → ℕ

@@ -6,9 +6,10 @@ use state::Mode;
 use state::State;
 ghost use mathlib.Core.Path.{_≡_};
 ghost use Prim.Native.Nat.{_+_, _≤_};
-ghost use lib.ListN.{length};
+ghost use lib.ListN.{length, drop};
+ghost use Rattle.facts.specs.Over.{over};
 ghost use Rattle.state.specs.State.{desk};
-ghost use Rattle.record.specs.Layout.{lowFirstOf, cursorAt, headOf, stateOf, recordOf};
+ghost use Rattle.record.specs.Layout.{lowFirstOf, cursorAt, fieldsOf, countsOf, countAt, stateOf, recordOf};
 
 fn read_cursor(bytes: &[u8], at: usize) -> Cursor
     requires { ⌜ at + 3 ≤ length (now bytes) ⌝ }
@@ -52,10 +53,18 @@ pub fn read_state(bytes: &[u8]) -> State
     }
 }
 
-// Bytes 0 to 63, over the whole of what is lent.
-pub fn write_head(out: &mut [u8], state: State)
-    requires { ⌜ length (now out) ≡ 64 ⌝ }
-    ensures { λ r. ⌜ now (out .exit) ≡ headOf state ⌝ }
+// How many cells of a displayed row are filled, as the record holds it.
+pub fn read_count(bytes: &[u8], row: Row) -> u8
+    requires { ⌜ (length (now bytes) ≡ 1984) × (row .0 ≤ 15) ⌝ }
+    ensures { λ r. ⌜ r ≡ countAt (now (bytes .entry)) row ⌝ }
+{
+    bytes[18 + (row.0 as usize)]
+}
+
+// Bytes 0 to 18.
+fn write_fields(bytes: &mut [u8], state: State)
+    requires { ⌜ 19 ≤ length (now bytes) ⌝ }
+    ensures { λ r. ⌜ now (bytes .exit) ≡ over (now (bytes .entry)) 0 (fieldsOf state) ⌝ }
 {
     let mode = state.mode;
     let fields = [
@@ -79,8 +88,29 @@ pub fn write_head(out: &mut [u8], state: State)
         state.first,
         state.second,
     ];
-    facts::wipe(out, 19, 45);
-    facts::copy(out, &fields);
+    facts::copy(bytes, &fields);
+}
+
+// Bytes 19 to 48: each row of the cells behind them is counted.
+fn write_counts(bytes: &mut [u8])
+    requires { ⌜ length (now bytes) ≡ 1984 ⌝ }
+    ensures { λ r. ⌜ now (bytes .exit) ≡ over (now (bytes .entry)) 19 (countsOf (drop 64 (now (bytes .entry)))) ⌝ }
+{
+    let mut r: usize = 0;
+    while r < 30 {
+        bytes[19 + r] = page::count_cells(bytes, 64 + r * 64);
+        r += 1;
+    }
+}
+
+// Bytes 0 to 63 made anew, from the state and from the cells behind them.
+pub fn write_head(bytes: &mut [u8], state: State)
+    requires { ⌜ length (now bytes) ≡ 1984 ⌝ }
+    ensures { λ r. ⌜ now (bytes .exit) ≡ recordOf (desk state (drop 64 (now (bytes .entry)))) ⌝ }
+{
+    write_fields(bytes, state);
+    write_counts(bytes);
+    facts::wipe(bytes, 49, 15);
 }
 
 // The record, over the whole of what is lent: a slot's part of the tray, or the desk.
@@ -89,5 +119,5 @@ pub fn write(out: &mut [u8], state: State, cells: &[u8])
     ensures { λ r. ⌜ now (out .exit) ≡ recordOf (desk state (now (cells .entry))) ⌝ }
 {
     facts::copy(&mut out[64..1984], cells);
-    write_head(&mut out[0..64], state);
+    write_head(out, state);
 }

@@ -3,11 +3,10 @@ use mathlib.Core.Path.{_≡_, refl}
 use mathlib.Core.Bool.{_&&_}
 use Prim.Native.Nat.{ℕ}
 use lib.Dec.{eqb}
-use lib.ListN.{replicate}
-use Rattle.facts.specs.Over.{over}
-use Rattle.state.specs.State.{freshOf}
+use lib.ListN.{drop, replicate}
+use Rattle.state.specs.State.{desk, freshOf}
 use Rattle.decode.specs.Step.{freshDesk}
-use Rattle.record.specs.Layout.{headOf, recordOf}
+use Rattle.record.specs.Layout.{recordOf}
 use Rattle.standing.specs.Calls.{isSized}
 use Rattle.replay.specs.Captions.{captionDecoder}
 
@@ -16,7 +15,7 @@ pub isSized-is : (d l t : ℕ) → (eqb d 1984 && (eqb l 48000 && eqb t 31744)) 
 unfolding isSized
 isSized-is d l t = refl
 
--- the fresh record: the fresh state's head over zeros
-pub over-fresh : over (replicate 1984 0) 0 (headOf (freshOf 1)) ≡ recordOf freshDesk
-unfolding headOf freshDesk
-over-fresh = refl
+-- the fresh record: the fresh state's head before zeros
+pub fresh-before-zeros : recordOf (desk (freshOf 1) (drop 64 (replicate 1984 0))) ≡ recordOf freshDesk
+unfolding freshDesk
+fresh-before-zeros = refl

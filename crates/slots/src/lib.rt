@@ -50,7 +50,7 @@ pub fn write_fresh(desk: &mut [u8])
     ensures { λ r. ⌜ now (desk .exit) ≡ recordOf freshDesk ⌝ }
 {
     facts::blank(desk);
-    record::write_head(&mut desk[0..64], State::fresh(State::CHANNEL));
+    record::write_head(desk, State::fresh(State::CHANNEL));
 }
 
 // The start's record: slot s, or the fresh one.

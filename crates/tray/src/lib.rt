@@ -42,7 +42,7 @@ fn replay_in_place(desk: &mut [u8], start: State, log: &[u8], from: usize, count
         × (r ≡ replayOf captionDecoder (readOf (now (desk .entry))) (now (log .entry)) from count .state) ⌝ }
 {
     let end = replay::replay(start, &mut desk[64..1984], log, from, count);
-    record::write_head(&mut desk[0..64], end);
+    record::write_head(desk, end);
     end
 }
 

@@ -13,6 +13,7 @@ use Rattle.codes.specs.Codes.{withoutChannelOf, midRowOrSpecialOf, tabOffsetOf,
 use Rattle.codes.specs.Assigned.{isAssigned, isExpected}
 use Rattle.record.specs.Layout.{stateOf}
 use Rattle.valid.specs.Valid.{isCursor, isValidState, isCellAt, isInWindow}
+use Rattle.valid.specs.Check.{isRow, isCounted}
 
 -- bytes 0 to 18 after 16,000 acts: roll-up of three rows, base row 14, column 5, pen 3Eh; a carriage return is expected
 abbrev rolling : List ℕ
@@ -78,8 +79,8 @@ all-judged : judged heads ≡ true
 unfolding judged agrees stateOf isValidState isCursor isPen isExpected isAssigned codeOf withoutChannelOf channelOneCodeOf midRowOrSpecialOf tabOffsetOf preambleCodeOf preambleRowOf
 all-judged = refl
 
--- byte 40 is one of those that are zero
-zeros-judged : (blankOf (replicate 64 0) 19 45 ≡ true) × (blankOf (set (replicate 64 0) 40 1) 19 45 ≡ false)
+-- byte 60 is one of those that are zero
+zeros-judged : (blankOf (replicate 64 0) 49 15 ≡ true) × (blankOf (set (replicate 64 0) 60 1) 49 15 ≡ false)
 unfolding blankOf
 zeros-judged = (refl, refl)
 
@@ -93,3 +94,12 @@ cells-judged = (refl, refl, refl, refl, refl)
 windows-judged : (isInWindow (rowNumber 15) 3 12 ≡ false) × (isInWindow (rowNumber 15) 3 13 ≡ true)
     × (isInWindow (rowNumber 2) 4 1 ≡ true) × (isInWindow (rowNumber 2) 4 3 ≡ false)
 windows-judged = (refl, refl, refl, refl)
+
+-- a row with 20h, 7Fh, 80h and 99h in it counts 4, and not 3 or 5; an empty row counts 0, and not 1
+abbrev four : List ℕ
+four = 0x20 ∷ 0 ∷ 0 ∷ 0 ∷ 0x7f ∷ 0 ∷ 0x80 ∷ 0x3e ∷ 0x99 ∷ 0 ∷ replicate 54 0
+
+counts-judged : (isCounted four 0 4 ≡ true) × (isCounted four 0 3 ≡ false) × (isCounted four 0 5 ≡ false)
+    × (isCounted (replicate 64 0) 0 0 ≡ true) × (isCounted (replicate 64 0) 0 1 ≡ false)
+unfolding isCounted isRow isCell isCode isPen
+counts-judged = (refl, refl, refl, refl, refl)

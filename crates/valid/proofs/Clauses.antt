@@ -21,7 +21,7 @@ use Rattle.state.specs.declared.State.{State}
 use Rattle.state.specs.State.{Desk}
 use Rattle.state.specs.Ranges.{Ranged}
 use Rattle.decode.specs.Sound.{SoundDesk}
-use Rattle.record.specs.Layout.{stateOf}
+use Rattle.record.specs.Layout.{stateOf, areCounted}
 use Rattle.valid.specs.Valid.{isWithin, isCursor, isValidState, isCellAt, isInWindow, isWindowed, isValid}
 
 -- A test of many clauses, joined from the left, and each clause by its number.
@@ -152,7 +152,8 @@ windowed-of base depth k code above below =
 pub record Clauses (bs : List ℕ) : Type 0 where
   pub size : length bs ≡ 1984
   pub state : isValidState (stateOf bs) ≡ true
-  pub zeros : blankOf bs 19 45 ≡ true
+  pub counts : areCounted bs ≡ true
+  pub zeros : blankOf bs 49 15 ≡ true
   pub cells : (k : ℕ) → k < 960 → isCellAt bs 64 k ≡ true
   pub window : stateOf bs .mode .mark ≡ 1 → (k : ℕ) → k < 480 → isWindowed (stateOf bs .mode) bs k ≡ true
 
@@ -160,18 +161,19 @@ pub isValid-clauses : (bs : List ℕ) → isValid bs ≡ true → Clauses bs
 unfolding isValid
 isValid-clauses bs e =
     let part = all-at (eqb (length bs) 1984)
-    (isValidState (stateOf bs) ∷ blankOf bs 19 45 ∷ every (isCellAt bs 64) 960
+    (isValidState (stateOf bs) ∷ areCounted bs ∷ blankOf bs 49 15 ∷ every (isCellAt bs 64) 960
     ∷ implies (eqb (stateOf bs .mode .mark) 1) (every (isWindowed (stateOf bs .mode) bs) 480) ∷ []) e in
     record {
       size = eqb-true (length bs) 1984 (part 0);
       state = part 1;
-      zeros = part 2;
-      cells = every-at (isCellAt bs 64) 960 (part 3);
-      window = λ m. every-at (isWindowed (stateOf bs .mode) bs) 480 (implies-at _ _ (part 4) (eq-eqb (stateOf bs .mode .mark) 1 m));
+      counts = part 2;
+      zeros = part 3;
+      cells = every-at (isCellAt bs 64) 960 (part 4);
+      window = λ m. every-at (isWindowed (stateOf bs .mode) bs) 480 (implies-at _ _ (part 5) (eq-eqb (stateOf bs .mode .mark) 1 m));
     }
 
 pub clauses-isValid : (bs : List ℕ) → Clauses bs → isValid bs ≡ true
 unfolding isValid
 clauses-isValid bs c =
-    λ i. eq-eqb (length bs) 1984 (c .size) i && c .state i && c .zeros i && every-of (isCellAt bs 64) 960 (c .cells) i
+    λ i. eq-eqb (length bs) 1984 (c .size) i && c .state i && c .counts i && c .zeros i && every-of (isCellAt bs 64) 960 (c .cells) i
     && implies-of (eqb (stateOf bs .mode .mark) 1) (λ m. every-of (isWindowed (stateOf bs .mode) bs) 480 (c .window (eqb-true (stateOf bs .mode .mark) 1 m))) i

@@ -1,19 +1,25 @@
 -- The laws of valid records: their size and round trip, and that they are the records of sound desks. Assumes nothing.
 use mathlib.Core.Path.{_≡_, ap, sym, subst, _∙_}
-use mathlib.Core.Bool.{true}
+use mathlib.Core.Bool.{true, false, false≢true}
 use mathlib.Core.List.{List}
-use Prim.Native.Nat.{ℕ, _+_, _-_, _*_, _<_}
+use Prim.Native.Nat.{ℕ, _+_, _-_, _*_, _<_, _≤_}
 use native.Mathlib.Omega.{arith}
 use lib.ListN.{length, getD, drop, length-drop}
 use lib.Seq.{getD-drop}
 use borrow.Author.Tests.{leb-true}
 use Rattle.facts.specs.Every.{blankOf}
+use Rattle.facts.proofs.Choice.{same-test}
+use Rattle.cell.specs.declared.Row.{Row}
+use Rattle.cell.specs.Place.{rowAt}
+use Rattle.page.specs.Page.{displayed, filledFrom, countRowOf}
 use Rattle.page.specs.Cells.{Each}
+use Rattle.page.proofs.LawsOfCounts.{filledFrom-drop}
 use Rattle.window.specs.Cells.{Kept}
 use Rattle.state.specs.State.{Desk}
 use Rattle.decode.specs.Sound.{SoundDesk}
-use Rattle.record.specs.Layout.{stateOf, recordOf, readOf, codeAt, penAt}
-use Rattle.record.proofs.Laws.{length-recordOf, readOf-recordOf, recordOf-zeros, zeros-recordOf}
+use Rattle.record.specs.Layout.{stateOf, recordOf, readOf, areCounted, countAt, codeAt, penAt}
+use Rattle.record.proofs.Laws.{length-recordOf, readOf-recordOf, recordOf-counted, areCounted-recordOf, zeros-recordOf}
+use Rattle.record.proofs.LawsOfCounts.{areCounted-at}
 use Rattle.valid.specs.Valid.{isValid}
 use Rattle.valid.proofs.Clauses.{Clauses, isValid-clauses, clauses-isValid, isValidState-clause, isValidState-ranged, isValidState-of, within-low, within-high, windowed-facts, windowed-of}
 
@@ -24,7 +30,7 @@ isValid-length bs e = isValid-clauses bs e .size
 pub recordOf-readOf : (bs : List ℕ) → isValid bs ≡ true → getD bs 0 0 < 256 → recordOf (readOf bs) ≡ bs
 recordOf-readOf bs e small =
     let c = isValid-clauses bs e in
-    recordOf-zeros bs (c .size) (c .zeros) small
+    recordOf-counted bs (c .size) (c .counts) (c .zeros) small
 
 -- the cells of a record are those of the desk that is read from it
 code-is : (bs : List ℕ) (k : ℕ) → getD (drop 64 bs) (k * 2) 0 ≡ codeAt bs 64 k
@@ -63,8 +69,8 @@ isValid-sound bs e =
     }
 
 -- and back
-isValid-of : (bs : List ℕ) → length bs ≡ 1984 → blankOf bs 19 45 ≡ true → SoundDesk (readOf bs) → isValid bs ≡ true
-isValid-of bs size zeros h =
+isValid-of : (bs : List ℕ) → length bs ≡ 1984 → areCounted bs ≡ true → blankOf bs 49 15 ≡ true → SoundDesk (readOf bs) → isValid bs ≡ true
+isValid-of bs size counts zeros h =
     let s = stateOf bs in
     let m = s .mode in
     let kept : (k : ℕ) → k < 960 → Kept (stateOf bs .mode .mark) (stateOf bs .mode .roll .row) (stateOf bs .mode .depth) k (codeAt bs 64 k) (penAt bs 64 k) =
@@ -72,6 +78,7 @@ isValid-of bs size zeros h =
     clauses-isValid bs (record {
       size = size;
       state = isValidState-of (readOf bs) h;
+      counts = counts;
       zeros = zeros;
       cells = λ k l. kept k l .allowed;
       window = λ set k l. windowed-of (m .roll .row) (m .depth) k (codeAt bs 64 k) (kept k (omega arith) .above set) (λ t. kept k (omega arith) .below set t l);
@@ -79,4 +86,23 @@ isValid-of bs size zeros h =
 
 pub isValid-recordOf : (d : Desk) → SoundDesk d → isValid (recordOf d) ≡ true
 isValid-recordOf d h =
-    isValid-of (recordOf d) (length-recordOf d (h .captions .cells .size)) (zeros-recordOf d) (subst SoundDesk (sym (readOf-recordOf d)) h)
+    isValid-of (recordOf d) (length-recordOf d (h .captions .cells .size)) (areCounted-recordOf d) (zeros-recordOf d) (subst SoundDesk (sym (readOf-recordOf d)) h)
+
+-- Request 2: the counts of a valid record are right, one wrong count makes it invalid, and the byte of a displayed row is how many of its cells are filled.
+
+pub isValid-counted : (bs : List ℕ) → isValid bs ≡ true → areCounted bs ≡ true
+isValid-counted bs e = isValid-clauses bs e .counts
+
+pub miscounted-isValid : (bs : List ℕ) (k : ℕ) → k < 30 → (getD bs (19 + k) 0 ≡ filledFrom bs (64 + k * 64) 32 → ⊥) → isValid bs ≡ false
+miscounted-isValid bs k h wrong =
+    same-test (isValid bs) false
+    (λ e. absurd (wrong (areCounted-at bs (isValid-length bs e) (isValid-counted bs e) k h))) (λ e. absurd (false≢true e))
+
+pub isValid-count : (bs : List ℕ) (row : Row) → isValid bs ≡ true → 1 ≤ row .0 → row .0 ≤ 15 → countAt bs row ≡ countRowOf (drop 64 bs) displayed row
+unfolding countRowOf
+isValid-count bs row e low high =
+    let k = row .0 - 1 in
+    let byte : 18 + row .0 ≡ 19 + k = omega arith in
+    let place : k * 64 ≡ rowAt displayed row = omega arith in
+    ap (λ (n : ℕ). getD bs n 0) byte ∙ areCounted-at bs (isValid-length bs e) (isValid-counted bs e) k (omega arith)
+    ∙ sym (filledFrom-drop bs 64 (k * 64) 32) ∙ ap (λ (at : ℕ). filledFrom (drop 64 bs) at 32) place

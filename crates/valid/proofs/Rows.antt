@@ -11,12 +11,15 @@ use Rattle.facts.specs.Every.{blankOf}
 use Rattle.facts.proofs.Choice.{below-cases, and-left, and-right, and-both, implies-at, implies-of, same-test}
 use Rattle.facts.proofs.Every.{every-at, every-of, blank-at, blank-of}
 use Rattle.cell.proofs.Laws.{empty-isCell, isCell-empty}
+use Rattle.page.specs.Page.{filledFrom}
+use Rattle.page.proofs.LawsOfCounts.{filledFrom-blank}
 use Rattle.window.specs.Window.{aboveOf}
 use Rattle.state.specs.declared.Mode.{Mode}
 use Rattle.state.specs.declared.State.{State}
-use Rattle.record.specs.Layout.{stateOf, codeAt}
+use Rattle.record.specs.Layout.{stateOf, areCounted, codeAt}
+use Rattle.record.proofs.LawsOfCounts.{areCounted-at, areCounted-of}
 use Rattle.valid.specs.Valid.{isValidState, isCellAt, isWindowed, isValid}
-use Rattle.valid.specs.Check.{isRow, areRows, isFramed, checkOf}
+use Rattle.valid.specs.Check.{isRow, isCounted, areRows, isFramed, checkOf}
 use Rattle.valid.proofs.Clauses.{Clauses, isValid-clauses, clauses-isValid, all-at, isValidState-ranged, windowed-facts, windowed-of}
 
 module _ (bs : List ℕ) where
@@ -32,23 +35,38 @@ module _ (bs : List ℕ) where
       every-of (isCellAt bs at) 32
       (λ j h. rw (blank-byte at 64 (at + j * 2) e (omega arith) (omega arith), blank-byte at 64 (at + j * 2 + 1) e (omega arith) (omega arith)) empty-isCell)
 
-  -- Thirty rows of 32 cells are 960 cells.
+  -- and none of them is filled
+  pub blank-isCounted : (at count : ℕ) → blankOf bs at 64 ≡ true → eqb count 0 ≡ isCounted bs at count
+  unfolding isCounted
+  blank-isCounted at count e = λ i. sym (blank-isRow at e) i && eqb count (sym (filledFrom-blank bs at 32 e) i)
+
+  -- Thirty rows of 32 cells are 960 cells, and the counts of the rows are those of the record.
+
+  rows-at : areRows bs ≡ true → (r : ℕ) → r < 30 → (isRow bs (64 + r * 64) ≡ true) × (getD bs (19 + r) 0 ≡ filledFrom bs (64 + r * 64) 32)
+  unfolding areRows isCounted
+  rows-at e r h =
+      let t = every-at (λ (n : ℕ). isCounted bs (64 + n * 64) (getD bs (19 + n) 0)) 30 e r h in
+      (and-left _ _ t, eqb-true _ _ (and-right (isRow bs (64 + r * 64)) _ t))
 
   rows-cells : areRows bs ≡ true → (k : ℕ) → k < 960 → isCellAt bs 64 k ≡ true
-  unfolding areRows isRow
+  unfolding isRow
   rows-cells e k h =
       let f : 64 + k / 32 * 64 + k % 32 * 2 ≡ 64 + k * 2 = omega arith in
-      let t = every-at (λ (r : ℕ). isRow bs (64 + r * 64)) 30 e (k / 32) (omega arith) in
-      rw f at (every-at (isCellAt bs (64 + k / 32 * 64)) 32 t (k % 32) (omega arith))
+      rw f at (every-at (isCellAt bs (64 + k / 32 * 64)) 32 (rows-at e (k / 32) (omega arith) .0) (k % 32) (omega arith))
 
-  cells-rows : ((k : ℕ) → k < 960 → isCellAt bs 64 k ≡ true) → areRows bs ≡ true
-  unfolding areRows isRow
-  cells-rows e =
-      every-of (λ (r : ℕ). isRow bs (64 + r * 64)) 30
-      (λ r l. every-of (isCellAt bs (64 + r * 64)) 32
+  cells-row : ((k : ℕ) → k < 960 → isCellAt bs 64 k ≡ true) → (r : ℕ) → r < 30 → isRow bs (64 + r * 64) ≡ true
+  unfolding isRow
+  cells-row e r l =
+      every-of (isCellAt bs (64 + r * 64)) 32
       (λ j h.
       let f : 64 + (r * 32 + j) * 2 ≡ 64 + r * 64 + j * 2 = omega arith in
-      rw f at (e (r * 32 + j) (omega arith))))
+      rw f at (e (r * 32 + j) (omega arith)))
+
+  cells-rows : length bs ≡ 1984 → ((k : ℕ) → k < 960 → isCellAt bs 64 k ≡ true) → areCounted bs ≡ true → areRows bs ≡ true
+  unfolding areRows isCounted
+  cells-rows size e counts =
+      every-of (λ (r : ℕ). isCounted bs (64 + r * 64) (getD bs (19 + r) 0)) 30
+      (λ r l. and-both (cells-row e r l) (eq-eqb _ _ (areCounted-at bs size counts r l)))
 
   -- both bytes of an allowed cell with code 0 are 0
   empty-byte : (i : ℕ) → 64 ≤ i → isCellAt bs 64 ((i - 64) / 2) ≡ true → codeAt bs 64 ((i - 64) / 2) ≡ 0 → getD bs i 0 ≡ 0
@@ -104,10 +122,11 @@ module _ (bs : List ℕ) where
     unfolding checkOf
     check-clauses e =
         let m = stateOf bs .mode in
-        let part = all-at (isValidState (stateOf bs)) (blankOf bs 19 45 ∷ areRows bs ∷ isFramed bs (m .mark) (m .roll .row) (m .depth) ∷ []) e in
+        let part = all-at (isValidState (stateOf bs)) (blankOf bs 49 15 ∷ areRows bs ∷ isFramed bs (m .mark) (m .roll .row) (m .depth) ∷ []) e in
         record {
           size = size;
           state = part 0;
+          counts = areCounted-of bs size (λ r l. rows-at (part 2) r l .1);
           zeros = part 1;
           cells = rows-cells (part 2);
           window = framed-window m (isValidState-ranged (stateOf bs) (part 0) .roll .place .row-high) (part 3);
@@ -117,16 +136,16 @@ module _ (bs : List ℕ) where
     unfolding checkOf
     clauses-check c =
         let high = isValidState-ranged (stateOf bs) (c .state) .roll .place .row-high in
-        λ i. c .state i && c .zeros i && cells-rows (c .cells) i && window-framed (stateOf bs .mode) high (c .cells) (c .window) i
+        λ i. c .state i && c .zeros i && cells-rows size (c .cells) (c .counts) i && window-framed (stateOf bs .mode) high (c .cells) (c .window) i
 
     pub checkOf-isValid : checkOf bs ≡ isValid bs
     checkOf-isValid = same-test (checkOf bs) (isValid bs) (λ e. clauses-isValid bs (check-clauses e)) (λ e. clauses-check (isValid-clauses bs e))
 
     -- the answers of the parts joined, with the state as it was read
-    pub check-joined : {s : State} {ok zeros rows framed : Bool} → s ≡ stateOf bs → ok ≡ isValidState s → zeros ≡ blankOf bs 19 45 → rows ≡ areRows bs
+    pub check-joined : {s : State} {ok zeros rows framed : Bool} → s ≡ stateOf bs → ok ≡ isValidState s → zeros ≡ blankOf bs 49 15 → rows ≡ areRows bs
         → framed ≡ isFramed bs (s .mode .mark) (s .mode .roll .row) (s .mode .depth) → (ok && zeros && rows && framed) ≡ isValid bs
     unfolding checkOf
     check-joined e a b c d =
         (λ i. a i && b i && c i && d i)
-        ∙ ap (λ (s : State). isValidState s && blankOf bs 19 45 && areRows bs && isFramed bs (s .mode .mark) (s .mode .roll .row) (s .mode .depth)) e
+        ∙ ap (λ (s : State). isValidState s && blankOf bs 49 15 && areRows bs && isFramed bs (s .mode .mark) (s .mode .roll .row) (s .mode .depth)) e
         ∙ checkOf-isValid

@@ -1,5 +1,5 @@
 -- Which records are valid: the paper's sentence, a line for each clause.
--- Paper 01, "Record, log, tray": the line "Valid", with the ranges of the first paragraph; docs/DECISIONS.md, "Cursors" and "Validity".
+-- Paper 01, "Record, log, tray": the line "Valid", with the ranges of the first paragraph; paper 02, request 2; docs/DECISIONS.md, "Cursors" and "Validity".
 -- Assumes nothing.
 use Prim.Native.Nat.{ℕ, _+_, _/_}
 use mathlib.Core.Bool.{Bool, _&&_, _||_}
@@ -17,7 +17,7 @@ use Rattle.window.specs.Window.{aboveOf}
 use Rattle.state.specs.declared.Mode.{Mode}
 use Rattle.state.specs.declared.State.{State}
 use Rattle.state.specs.Style.{rollUp, paintOn}
-use Rattle.record.specs.Layout.{stateOf, codeAt, penAt}
+use Rattle.record.specs.Layout.{stateOf, areCounted, codeAt, penAt}
 
 -- n is one of low to high
 abbrev pub isWithin : ℕ → ℕ → ℕ → Bool
@@ -70,8 +70,10 @@ isValid bs =
     -- "one record of 1,984 bytes"
     eqb (length bs) 1984
     && isValidState (stateOf bs)
-    -- "19–63 zero"
-    && blankOf bs 19 45
+    -- request 2: "A record is valid only if they are [right]": the counts, bytes 19 to 48
+    && areCounted bs
+    -- what is left of "19–63 zero"
+    && blankOf bs 49 15
     -- "64–1023 displayed, 1024–1983 non-displayed, row by row": 960 cells
     && every (isCellAt bs 64) 960
     -- "mark set requires .. cells in the window only"

@@ -8,7 +8,7 @@ ghost use mathlib.Core.Path.{_≡_};
 ghost use Prim.Native.Nat.{_+_, _≤_};
 ghost use lib.ListN.{length};
 ghost use Rattle.valid.specs.Valid.{isCursor, isValidState, isValid};
-ghost use Rattle.valid.specs.Check.{isRow, areRows, isFramed};
+ghost use Rattle.valid.specs.Check.{isRow, isCounted, areRows, isFramed};
 
 fn is_cursor(cursor: Cursor) -> bool
     ensures { λ r. ⌜ r ≡ isCursor cursor ⌝ }
@@ -58,6 +58,17 @@ pub fn is_row(bytes: &[u8], at: usize) -> bool
     ok
 }
 
+// A row of which `count` cells are filled. An empty one is passed over at once.
+fn is_counted(bytes: &[u8], at: usize, count: u8) -> bool
+    requires { ⌜ at + 64 ≤ length (now bytes) ⌝ }
+    ensures { λ r. ⌜ r ≡ isCounted (now (bytes .entry)) at count ⌝ }
+{
+    if facts::is_blank(bytes, at, 64) {
+        return count == 0;
+    }
+    is_row(bytes, at) & (count == page::count_cells(bytes, at))
+}
+
 fn are_rows(bytes: &[u8]) -> bool
     requires { ⌜ length (now bytes) ≡ 1984 ⌝ }
     ensures { λ r. ⌜ r ≡ areRows (now (bytes .entry)) ⌝ }
@@ -65,7 +76,7 @@ fn are_rows(bytes: &[u8]) -> bool
     let mut ok = true;
     let mut r: usize = 0;
     while r < 30 {
-        ok = ok & is_row(bytes, 64 + r * 64);
+        ok = ok & is_counted(bytes, 64 + r * 64, bytes[19 + r]);
         r += 1;
     }
     ok
@@ -93,7 +104,7 @@ pub fn is_valid(bytes: &[u8]) -> bool
         let state = record::read_state(bytes);
         if is_valid_state(state) {
             let mode = state.mode;
-            return facts::is_blank(bytes, 19, 45)
+            return facts::is_blank(bytes, 49, 15)
                 & are_rows(bytes)
                 & is_framed(bytes, mode.mark, mode.roll.row, mode.depth);
         }

@@ -85,7 +85,7 @@ impl Slipped {
                 desk[17..19].copy_from_slice(&before[17..19]);
             }
             Slip::FlashOnWithoutItsSpace if code == Some((0x14, 0x28)) && acted => {
-                desk[64..].copy_from_slice(&before[64..]);
+                desk[19..].copy_from_slice(&before[19..]);
                 for column in [9, 12, 15] {
                     desk[column] = before[column];
                 }
@@ -105,7 +105,7 @@ impl Slipped {
             }
             Slip::ErasureNeedsAStyle if before[4] == 0 && acted && !repeat => {
                 if matches!(code, Some((0x14, 0x2C | 0x2E))) {
-                    desk[64..].copy_from_slice(&before[64..]);
+                    desk[19..].copy_from_slice(&before[19..]);
                 }
             }
             Slip::RollUpTakesTheCursorHome if before[6] == 1 && acted && !repeat => {
@@ -147,7 +147,7 @@ impl Machine for Slipped {
             _ => log,
         };
         if self.is(Slip::ZeroBytesNotChecked) && desk.len() == 1_984 {
-            desk[19..64].fill(0);
+            desk[49..64].fill(0);
         }
         let result = Paper.take(desk, log, tray, first, second);
         if result >> 16 == 0 {

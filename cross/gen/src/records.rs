@@ -1,13 +1,20 @@
 //! Records made by the paper's list of fields, and damage to them.
 
+use std::ops::Range;
+
 use crate::prng::Prng;
 
 /// The bytes of a record.
 pub const RECORD_BYTES: usize = 1_984;
+/// Where the counts stand: how many cells of each displayed row are filled, then
+/// of each non-displayed row.
+const COUNTS: Range<usize> = 19..49;
 /// Where the displayed cells begin.
 const DISPLAYED: usize = 64;
 /// Where the non-displayed cells begin.
 const HIDDEN: usize = 1_024;
+/// The bytes of a row, two a cell.
+const ROW_BYTES: usize = 64;
 
 /// A record that keeps to every line of "Valid", whether or not a run reaches
 /// it: any fields, any cells, any assigned pair expected.
@@ -45,7 +52,17 @@ pub fn odd_record(seed: u64, acts: u16) -> Vec<u8> {
         fill_row(&mut prng, &mut record, DISPLAYED, row, shown);
         fill_row(&mut prng, &mut record, HIDDEN, row, true);
     }
+    mend_counts(&mut record);
     record
+}
+
+/// Makes the counts of a record right: how many codes of each row are not 0.
+pub fn mend_counts(record: &mut [u8]) {
+    let (fields, cells) = record.split_at_mut(DISPLAYED);
+    let rows = cells.chunks_exact(ROW_BYTES);
+    for (count, row) in fields[COUNTS].iter_mut().zip(rows) {
+        *count = row.iter().step_by(2).map(|&code| u8::from(code != 0)).sum();
+    }
 }
 
 /// A valid record that these raw bytes, pair by pair, are played on: this

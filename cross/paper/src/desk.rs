@@ -8,7 +8,6 @@ mod record;
 
 use std::ops::Range;
 
-use crate::decode::{Row, EMPTY};
 use crate::numbers::{Answer, Refusal};
 
 pub(crate) use record::read_grid;
@@ -191,12 +190,8 @@ pub fn row(desk: &[u8], row: u8) -> Answer {
     let standing = Standing::load(desk)?;
     let index = usize::from(row).checked_sub(1).ok_or(Refusal::Range)?;
     let cells = standing.decoder.displayed().get(index);
-    cells.map(non_empty).ok_or(Refusal::Range)
-}
-
-/// "the number of its non-empty displayed cells".
-fn non_empty(row: &Row) -> u16 {
-    row.iter().map(|&cell| u16::from(cell != EMPTY)).sum()
+    let number = cells.map(record::filled).ok_or(Refusal::Range)?;
+    Ok(number.into())
 }
 
 /// "the view returns bytes 64 to 1023 of the lent record, or an empty part on

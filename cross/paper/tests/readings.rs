@@ -292,12 +292,17 @@ fn after_selecting_the_repeat_acts_again() {
 
 // Validity and calls.
 
-/// The record with some bytes changed, and whether a call takes it.
-fn valid(base: &Desk, changes: &[(usize, u8)]) -> bool {
+/// The desk with some bytes of its record changed.
+fn changed(base: &Desk, changes: &[(usize, u8)]) -> Desk {
     let mut desk = base.clone();
     for &(place, byte) in changes {
         desk.desk[place] = byte;
     }
+    desk
+}
+
+/// Whether a call takes the desk.
+fn taken(mut desk: Desk) -> bool {
     let row = desk.row(1);
     let take = desk.take(0x80, 0x80);
     assert_eq!(take.err(), row.err());
@@ -305,10 +310,23 @@ fn valid(base: &Desk, changes: &[(usize, u8)]) -> bool {
     row.is_ok()
 }
 
+/// Whether the record with some bytes changed is valid.
+fn valid(base: &Desk, changes: &[(usize, u8)]) -> bool {
+    taken(changed(base, changes))
+}
+
+/// Whether it is with some cells changed: the counts are made right beside
+/// them, so that the cells decide.
+fn valid_cells(base: &Desk, changes: &[(usize, u8)]) -> bool {
+    let mut desk = changed(base, changes);
+    count_cells(&mut desk.desk);
+    taken(desk)
+}
+
 #[test]
-fn bytes_19_to_63_are_zero() {
+fn bytes_49_to_63_are_zero() {
     let desk = Desk::after("9420 C849");
-    for place in 19..64 {
+    for place in ZEROS {
         assert!(!valid(&desk, &[(place, 1)]) && !valid(&desk, &[(place, 0x80)]));
     }
     assert!(valid(&desk, &[]));
@@ -320,15 +338,18 @@ fn with_the_mark_set_displayed_cells_lie_in_the_window() {
     for row in 1..=15 {
         let shown = Desk::place(DISPLAYED, row, 7);
         let hidden = Desk::place(HIDDEN, row, 7);
-        assert_eq!(valid(&desk, &[(shown, 0x41)]), row >= 14, "{row}");
-        assert!(valid(&desk, &[(hidden, 0x41)]), "{row}");
-        assert_eq!(valid(&desk, &[(shown, 0x41), (DEPTH, 4)]), row >= 12);
+        assert_eq!(valid_cells(&desk, &[(shown, 0x41)]), row >= 14, "{row}");
+        assert!(valid_cells(&desk, &[(hidden, 0x41)]), "{row}");
+        assert_eq!(valid_cells(&desk, &[(shown, 0x41), (DEPTH, 4)]), row >= 12);
     }
     // A base row near the top: the window is cut off at row 1.
     let low = [(ROLL_UP, 2), (DEPTH, 4)];
     let text = Desk::place(DISPLAYED, 15, 1);
     assert!(!valid(&desk, &low));
-    assert!(valid(&desk, &[low[0], low[1], (text, 0), (text + 2, 0)]));
+    assert!(valid_cells(
+        &desk,
+        &[low[0], low[1], (text, 0), (text + 2, 0)]
+    ));
 }
 
 #[test]
@@ -405,9 +426,9 @@ fn cell_codes_and_empty_cells() {
             let cell = Desk::place(memory, row, column);
             for code in 0..=255u8 {
                 let rule = matches!(code, 0 | 0x20..=0x80 | 0x90..=0x9F);
-                assert_eq!(valid(&desk, &[(cell, code)]), rule, "{code:02X}");
+                assert_eq!(valid_cells(&desk, &[(cell, code)]), rule, "{code:02X}");
             }
-            assert!(!valid(&desk, &[(cell, 0), (cell + 1, 1)]));
+            assert!(!valid_cells(&desk, &[(cell, 0), (cell + 1, 1)]));
         }
     }
 }
@@ -479,7 +500,7 @@ fn where_m_is_1000_s_no_act_is_needed_but_the_slot_must_be_valid() {
     bad.slot_mut(2)[0] ^= 1;
     bad.refuses(INVALID, |desk| desk.back(5));
     bad.slot_mut(2)[0] ^= 1;
-    bad.slot_mut(2)[19] = 1;
+    bad.slot_mut(2)[ZEROS.start] = 1;
     bad.refuses(INVALID, |desk| desk.back(5));
 }
 
@@ -523,6 +544,7 @@ fn a_start_is_not_compared_with_the_log_before_it() {
     let mut desk = two_slots();
     let other = Desk::place(DISPLAYED, 15, 30);
     desk.slot_mut(2)[other] = 0x5A;
+    count_cells(desk.slot_mut(2));
     assert_eq!(desk.back(5), Ok(2_000));
     assert_eq!(desk.desk[other], 0x5A);
 }
@@ -585,7 +607,7 @@ fn the_view_is_bytes_64_to_1023_of_the_record_itself() {
     let mut desk = Desk::after("9429 C849");
     let part = desk::view(&desk.desk).unwrap();
     assert_eq!(part.as_ptr_range(), desk.desk[64..1024].as_ptr_range());
-    desk.desk[19] = 1;
+    desk.desk[ZEROS.start] = 1;
     assert_eq!(desk::view(&desk.desk), Err(Refusal::Invalid));
     assert_eq!(desk::view(&desk.desk[1..]), Err(Refusal::Length));
     assert_eq!(desk::view(&[]), Err(Refusal::Length));

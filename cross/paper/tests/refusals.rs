@@ -25,7 +25,7 @@ const CALLS: [Call; 6] = [
 fn desks() -> Vec<Desk> {
     let good = Desk::after("9425 C849");
     let mut invalid = good.clone();
-    invalid.desk[19] = 1;
+    invalid.desk[ZEROS.start] = 1;
     let mut full = good.clone();
     full.set_acts(16_000);
     let mut both = full.clone();
@@ -133,7 +133,7 @@ fn row_refuses_1_then_6_then_2() {
     for row in 1..=15 {
         assert_eq!(desk.row(row), Ok(if row == 15 { 2 } else { 0 }));
     }
-    desk.desk[19] = 1;
+    desk.desk[ZEROS.start] = 1;
     desk.refuses(INVALID, |desk| desk.row(0));
     desk.desk.push(0);
     desk.refuses(LENGTH, |desk| desk.row(0));
@@ -146,7 +146,7 @@ fn view_refuses_1_for_either_length_and_then_6() {
     assert_eq!(desk::view_into(&desk.desk, &mut out), Ok(0));
     assert_eq!(out, desk.desk[64..1024]);
     out.fill(0xA5);
-    desk.desk[19] = 1;
+    desk.desk[ZEROS.start] = 1;
     assert_eq!(desk::view_into(&desk.desk, &mut out), INVALID);
     for length in [0, 959] {
         assert_eq!(desk::view_into(&desk.desk, &mut out[..length]), LENGTH);

@@ -1,38 +1,41 @@
--- `row` meets its contract. Assumes nothing.
-use mathlib.Core.List.{List}
+-- `row` meets its contract: in a valid record the byte of a row is its count. Assumes nothing.
 use mathlib.Core.Path.{ap, sym, _∙_}
-use Prim.Native.Nat.{ℕ}
-use native.Mathlib.Omega.{arith}
+use Prim.Native.Nat.{_≤_}
 use lib.Dec.{leb}
 use denote.Ref.{now}
-use borrow.Rule.Slice.PartMut.{mid-len}
 use borrow.Author.Tests.{leb-true}
 use borrow.Author.Tests.{eq-eqb, ne-eqb}
 use borrow.Author.Needs.{needs}
-use Rattle.record.proofs.Laws.{lent-cells}
-use Rattle.standing.specs.Calls.{gives}
-use Rattle.page.specs.Page.{displayed, countRowOf}
-use Rattle.cell.specs.Place.{rowNumber}
 use Rattle.facts.proofs.Choice.{and-left, and-right}
+use Rattle.cell.specs.Place.{rowNumber}
+use Rattle.valid.proofs.Laws.{isValid-count}
+use Rattle.standing.specs.Calls.{gives}
 use Rattle.desk.specs.Looks.{lookOf, rowOf}
 use Rattle.desk.proofs.row.Statement.{statement}
 use Rattle.desk.proofs.row.Tie as tie
 
-count-row-requires : tie.Need-count-row-requires
-count-row-requires c κs =
-    let f = c .before in
-    let a = c .before .before .before .before .before .before .args in
-    let size = mid-len 64 1984 (now (a .desk)) (omega (arith, f .before .before .before .if1 .taken)) in
-    (record { early = omega arith; whole = omega (arith, size) }, leb-true 1 (a .number) (and-left (leb 1 (a .number)) (leb (a .number) 15) (f .if3 .taken)), leb-true (a .number) 15 (and-right (leb 1 (a .number)) (leb (a .number) 15) (f .if3 .taken)))
+-- the row is one of 1 to 15
+low : (c : tie.Then3) → 1 ≤ c .before .before .before .before .before .args .number
+low c =
+    let n = c .before .before .before .before .before .args .number in
+    leb-true 1 n (and-left (leb 1 n) (leb n 15) (c .if3 .taken))
+
+high : (c : tie.Then3) → c .before .before .before .before .before .args .number ≤ 15
+high c =
+    let n = c .before .before .before .before .before .args .number in
+    leb-true n 15 (and-right (leb 1 n) (leb n 15) (c .if3 .taken))
+
+read-count-requires : tie.Need-read-count-requires
+read-count-requires c κs = (c .before .before .before .if1 .taken, high c)
 
 returns : tie.Need-returns
 unfolding rowOf lookOf
 returns c =
-    let f = c .before .before in
-    let a = c .before .before .before .before .before .before .before .args in
-    let size = f .before .before .before .if1 .taken in
-    rw (eq-eqb _ _ size, sym (f .before .before .is-valid .ensures) ∙ f .before .if2 .taken, f .if3 .taken)
-    (ap (gives 0) (c .count-row .ensures .0 ∙ ap (λ (l : List ℕ). countRowOf l displayed (rowNumber (a .number))) (lent-cells (now (a .desk)) size)))
+    let f = c .before in
+    let a = f .before .before .before .before .before .args in
+    let valid = sym (f .before .before .is-valid .ensures) ∙ f .before .if2 .taken in
+    rw (eq-eqb _ _ (f .before .before .before .if1 .taken), valid, f .if3 .taken)
+    (ap (gives 0) (c .read-count .ensures ∙ isValid-count (now (a .desk)) (rowNumber (a .number)) valid (low f) (high f)))
 
 returns-2 : tie.Need-returns-2
 unfolding rowOf lookOf
@@ -51,10 +54,7 @@ row-spec =
     tie.close
     (tie.spec
     (λ c κs. search needs)
-    (λ c. search needs)
-    (λ c. search needs)
-    (λ c. search needs)
-    count-row-requires
+    read-count-requires
     (λ c. search needs)
     returns
     returns-2

@@ -1,35 +1,17 @@
--- `write_head` meets its contract. Assumes nothing.
-use mathlib.Core.Path.{ap, _∙_}
-use mathlib.Core.List.{List}
-use Prim.Native.Nat.{ℕ}
+-- `write_head` meets its contract: fields, counts and zeros stand one behind the other. Assumes nothing.
 use denote.Ref.{now}
-use lib.ListN.{replicate}
 use borrow.Author.Needs.{needs}
-use Rattle.facts.specs.Over.{over}
-use Rattle.facts.proofs.Over.{over-both}
-use Rattle.record.specs.Layout.{fieldsOf, headOf}
+use Rattle.record.proofs.Laws.{head-written}
 use Rattle.record.proofs.write_head.Statement.{statement}
 use Rattle.record.proofs.write_head.Tie as tie
 
 returns : tie.Need-returns
-unfolding headOf
 returns c =
-    let copied = c .before .before in
-    let wiped = copied .before .before .before .before .before in
-    let start = wiped .before .before .before .before .before .before in
-    let a = start .args in
-    copied .copy .ensures
-    ∙ ap (λ (l : List ℕ). over l 0 (fieldsOf (a .state))) (wiped .wipe .ensures)
-    ∙ over-both (now (a .out)) (fieldsOf (a .state)) (replicate 45 0) (start .pre)
+    let zeros = c .before .before in
+    let counts = zeros .before .before .before .before in
+    let fields = counts .before .before .before .before in
+    let s = fields .before .before .before in
+    head-written (now (s .args .bytes)) (s .args .state) (s .pre) (fields .write-fields .ensures) (counts .write-counts .ensures) (zeros .wipe .ensures)
 
 pub write-head-spec : {M : Type 1} → statement M
-write-head-spec =
-    tie.close
-    (tie.spec
-    (λ c. search needs)
-    (λ c. search needs)
-    (λ c κs. search needs)
-    (λ c. search needs)
-    (λ c κs. search needs)
-    (λ c. search needs)
-    returns)
+write-head-spec = tie.close (tie.spec (λ c κs. search needs) (λ c κs. search needs) (λ c κs. search needs) (λ c. search needs) returns)

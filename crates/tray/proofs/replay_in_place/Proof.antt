@@ -26,9 +26,9 @@ replay-requires c κs =
     let size = isValid-length bs (s .pre .0) in
     (subst SoundDesk (λ i. desk (sym (s .pre .1) i) (sym (lent-cells bs size) i)) (isValid-sound bs (s .pre .0)), s .pre .2, s .pre .3, s .pre .4, s .pre .5)
 
-part-write-head-end : tie.Need-part-write-head-end
-part-write-head-end c =
-    let s = c .before .before .before .before .before .before in
+write-head-requires : tie.Need-write-head-requires
+write-head-requires c κs =
+    let s = c .before .before .before .before .before .before .before in
     omega (arith, isValid-length (now (s .args .desk)) (s .pre .0))
 
 returns : tie.Need-returns
@@ -51,9 +51,6 @@ replay-in-place-spec =
     (λ c. search needs)
     part-replay-end
     replay-requires
-    (λ c. search needs)
-    (λ c. search needs)
-    part-write-head-end
-    (λ c κs. search needs)
+    write-head-requires
     (λ c. search needs)
     returns)

@@ -4,7 +4,7 @@ use std::ops::Range;
 
 use super::{Record, MOST_ACTS, RECORD_BYTES};
 use crate::codes;
-use crate::decode::{Cell, Cursor, Decoder, Expected, Grid, Style, COLUMNS, EMPTY};
+use crate::decode::{Cell, Cursor, Decoder, Expected, Grid, Row, Style, COLUMNS, EMPTY, ROWS};
 use crate::numbers::Refusal;
 
 /// "0–1 standing acts, low byte first".
@@ -26,8 +26,12 @@ const DEPTH: usize = 7;
 const CURSORS: Range<usize> = 8..17;
 /// "17–18 expected a, b with the channel still in a (0, 0 none)".
 const EXPECTED: Range<usize> = 17..19;
-/// "19–63 zero".
-const ZERO: Range<usize> = 19..64;
+/// "bytes 19 to 33 for the displayed rows": how many cells of each are filled.
+const DISPLAYED_COUNTS: Range<usize> = 19..34;
+/// "34 to 48 for the others".
+const HIDDEN_COUNTS: Range<usize> = 34..49;
+/// "19–63 zero", but for the counts.
+const ZERO: Range<usize> = 49..64;
 /// "64–1023 displayed".
 pub(super) const DISPLAYED: Range<usize> = 64..1024;
 /// "1024–1983 non-displayed".
@@ -71,13 +75,16 @@ impl Standing {
             bytes.copy_from_slice(&[cursor.row, cursor.column, cursor.pen]);
         }
         record[EXPECTED].copy_from_slice(&decoder.expected.bytes());
+        record[DISPLAYED_COUNTS].copy_from_slice(&counts(decoder.displayed()));
+        record[HIDDEN_COUNTS].copy_from_slice(&counts(decoder.hidden()));
         record[ZERO].fill(0);
         write_grid(&mut record[DISPLAYED], decoder.displayed());
         write_grid(&mut record[HIDDEN], decoder.hidden());
     }
 }
 
-/// "Valid: …": the state of a record if every check holds. "No other check."
+/// "Valid: …": the state of a record if every check holds, and the counts'
+/// own: "A record is valid only if they are." "No other check."
 fn read(record: &Record) -> Option<Standing> {
     let mut decoder = Decoder::fresh(channel(record[SELECTED])?);
     decoder.stream = stream(record[STREAM])?;
@@ -96,11 +103,13 @@ fn read(record: &Record) -> Option<Standing> {
     let zero = record[ZERO].iter().all(|&byte| byte == 0);
     let cells = read_grid(&record[DISPLAYED], decoder.displayed_mut())
         & read_grid(&record[HIDDEN], decoder.hidden_mut());
+    let counted = record[DISPLAYED_COUNTS] == counts(decoder.displayed())
+        && record[HIDDEN_COUNTS] == counts(decoder.hidden());
     let standing = Standing {
         acts: acts(&record[ACTS])?,
         decoder,
     };
-    (zero && cells && mark_holds(&standing.decoder)).then_some(standing)
+    (zero && cells && counted && mark_holds(&standing.decoder)).then_some(standing)
 }
 
 /// "acts up to 16,000"; "low byte first".
@@ -192,6 +201,16 @@ fn write_grid(bytes: &mut [u8], grid: &Grid) {
     for (bytes, cell) in bytes.chunks_exact_mut(2).zip(grid.as_flattened()) {
         bytes.copy_from_slice(&[cell.code, cell.pen]);
     }
+}
+
+/// "how many cells of each row are filled": those that are not empty.
+pub(super) fn filled(row: &Row) -> u8 {
+    row.iter().map(|&cell| u8::from(cell != EMPTY)).sum()
+}
+
+/// "Keep the counts in the record": those of one memory, row 1 first.
+fn counts(grid: &Grid) -> [u8; ROWS] {
+    grid.each_ref().map(filled)
 }
 
 /// "mark set requires depth 2–4 and cells in the window only; roll-up style

@@ -18,6 +18,9 @@ pub const ROLL_UP: usize = 8;
 pub const POP_ON: usize = 11;
 pub const PAINT_ON: usize = 14;
 pub const EXPECTED: usize = 17;
+pub const DISPLAYED_COUNTS: usize = 19;
+pub const HIDDEN_COUNTS: usize = 34;
+pub const ZEROS: std::ops::Range<usize> = 49..64;
 pub const DISPLAYED: usize = 64;
 pub const HIDDEN: usize = 1024;
 
@@ -165,6 +168,17 @@ impl Desk {
         let before = self.clone();
         assert_eq!(call(self), answer);
         assert!(*self == before, "a refusal changed a byte");
+    }
+}
+
+/// Writes into a record how many cells of each row are filled, by its codes.
+pub fn count_cells(record: &mut [u8]) {
+    let rows = [(DISPLAYED_COUNTS, DISPLAYED), (HIDDEN_COUNTS, HIDDEN)];
+    for (counts, memory) in rows {
+        for row in 0..15 {
+            let codes = (0..32).map(|column| record[memory + 64 * row + 2 * column]);
+            record[counts + row] = codes.filter(|&code| code != 0).count() as u8;
+        }
     }
 }
 
