@@ -6,9 +6,10 @@ use crate::prng::Prng;
 
 /// The bytes of a record.
 pub const RECORD_BYTES: usize = 1_984;
-/// Where the counts stand: how many cells of each displayed row are filled, then
-/// of each non-displayed row.
-const COUNTS: Range<usize> = 19..49;
+/// How many cells of each displayed row are filled.
+pub const DISPLAYED_COUNTS: Range<usize> = 19..34;
+/// How many of each non-displayed row.
+pub const HIDDEN_COUNTS: Range<usize> = 34..49;
 /// Where the displayed cells begin.
 const DISPLAYED: usize = 64;
 /// Where the non-displayed cells begin.
@@ -59,8 +60,8 @@ pub fn odd_record(seed: u64, acts: u16) -> Vec<u8> {
 /// Makes the counts of a record right: how many codes of each row are not 0.
 pub fn mend_counts(record: &mut [u8]) {
     let (fields, cells) = record.split_at_mut(DISPLAYED);
-    let rows = cells.chunks_exact(ROW_BYTES);
-    for (count, row) in fields[COUNTS].iter_mut().zip(rows) {
+    let counts = &mut fields[DISPLAYED_COUNTS.start..HIDDEN_COUNTS.end];
+    for (count, row) in counts.iter_mut().zip(cells.chunks_exact(ROW_BYTES)) {
         *count = row.iter().step_by(2).map(|&code| u8::from(code != 0)).sum();
     }
 }
@@ -142,6 +143,37 @@ fn fill_row(prng: &mut Prng, record: &mut [u8], memory: usize, row: usize, fille
     }
 }
 
+/// Whether a byte of a record is a cell's.
+pub fn is_cell(place: usize) -> bool {
+    place >= DISPLAYED
+}
+
+/// The place of a count, often one at an end of the two lists.
+pub fn count_place(prng: &mut Prng) -> usize {
+    if prng.percent(50) {
+        prng.pick(&[19, 33, 34, 48])
+    } else {
+        prng.within(DISPLAYED_COUNTS.start, HIDDEN_COUNTS.end - 1)
+    }
+}
+
+/// The place of a cell, of both memories, and what it may hold: a code and a
+/// pen, or nothing.
+pub fn odd_cell(prng: &mut Prng) -> (usize, [u8; 2]) {
+    let row = if prng.percent(50) {
+        prng.pick(&[0, 12, 13, 14, 15, 27, 28, 29])
+    } else {
+        prng.below(30)
+    };
+    let place = DISPLAYED + ROW_BYTES * row + 2 * usize::from(column(prng) - 1);
+    let cell = if prng.percent(20) {
+        [0, 0]
+    } else {
+        [cell_code(prng), pen(prng)]
+    };
+    (place, cell)
+}
+
 /// One targeted change to a record: the place and the byte written there. The
 /// values lie at the edges of the field, inside and outside.
 pub fn field_damage(prng: &mut Prng) -> (usize, u8) {
@@ -149,7 +181,8 @@ pub fn field_damage(prng: &mut Prng) -> (usize, u8) {
         0 => 0,
         1 => 1,
         2..=7 => prng.within(2, 18),
-        8 => prng.within(19, 63),
+        8 if prng.percent(50) => count_place(prng),
+        8 => prng.within(49, 63),
         9 => prng.within(DISPLAYED, HIDDEN - 1),
         10 => prng.within(HIDDEN, RECORD_BYTES - 1),
         _ => DISPLAYED + 2 * prng.below(480),
@@ -166,11 +199,42 @@ pub fn field_damage(prng: &mut Prng) -> (usize, u8) {
         18 => &[
             0, 0x1F, 0x20, 0x22, 0x2D, 0x40, 0x5F, 0x60, 0x7F, 0x80, 0xAD,
         ],
-        19..=63 => &[0, 1, 0x80],
+        19..=48 => &[0, 1, 2, 31, 32, 33, 0xFF],
+        49..=63 => &[0, 1, 0x80],
         _ if place % 2 == 0 => &[
             0, 1, 0x1F, 0x20, 0x7F, 0x80, 0x81, 0x8F, 0x90, 0x9F, 0xA0, 0xFF,
         ],
         _ => &[0, 1, 6, 7, 0x3E, 0x3F, 0x40, 0x80],
     };
     (place, prng.pick(edges))
+}
+
+#[cfg(test)]
+mod tests {
+    use super::*;
+
+    #[test]
+    fn counts_stand_row_by_row_the_displayed_ones_first() {
+        let mut record = vec![0; RECORD_BYTES];
+        record[DISPLAYED] = 0x20;
+        record[HIDDEN - 2] = 0x80;
+        record[HIDDEN - 1] = 6;
+        record[HIDDEN] = 0x99;
+        record[HIDDEN + 2] = 0x7F;
+        record[RECORD_BYTES - ROW_BYTES..].fill(0x41);
+        mend_counts(&mut record);
+        let counts = (19..49).filter(|&place| record[place] != 0);
+        let counts: Vec<_> = counts.map(|place| (place, record[place])).collect();
+        assert_eq!(counts, [(19, 1), (33, 1), (34, 2), (48, 32)]);
+    }
+
+    #[test]
+    fn counts_of_a_made_record_need_no_mending() {
+        for seed in 0..200 {
+            let record = odd_record(seed, 7);
+            let mut mended = record.clone();
+            mend_counts(&mut mended);
+            assert_eq!(record, mended);
+        }
+    }
 }

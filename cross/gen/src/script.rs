@@ -3,7 +3,10 @@
 use std::fmt;
 
 use crate::prng::Prng;
-use crate::records::{field_damage, odd_record, RECORD_BYTES};
+use crate::records::{
+    count_place, field_damage, is_cell, mend_counts, odd_cell, odd_record, DISPLAYED_COUNTS,
+    HIDDEN_COUNTS, RECORD_BYTES,
+};
 use crate::traffic::{self, Traffic};
 
 /// The bytes of a log.
@@ -87,6 +90,13 @@ pub enum Arrange {
     Flip(Part, usize, u8),
     /// One byte is written.
     Poke(Part, usize, u8),
+    /// One byte grows by so much, modulo 256.
+    Grow(Part, usize, u8),
+    /// The bytes from one place on and those from another change places, so many
+    /// of them.
+    Exchange(Part, usize, usize, usize),
+    /// The counts of the record that starts at this place become right.
+    MendCounts(Part, usize),
     /// The desk's act count is written.
     Acts(u16),
     /// The desk becomes a valid record made from a seed, with this act count.
@@ -169,6 +179,17 @@ impl Buffers {
         match *arrange {
             Arrange::Flip(part, place, bits) => self.part(part)[place] ^= bits,
             Arrange::Poke(part, place, byte) => self.part(part)[place] = byte,
+            Arrange::Grow(part, place, more) => {
+                let byte = &mut self.part(part)[place];
+                *byte = byte.wrapping_add(more);
+            }
+            Arrange::Exchange(part, one, other, count) => {
+                let bytes = self.part(part);
+                (0..count).for_each(|each| bytes.swap(one + each, other + each));
+            }
+            Arrange::MendCounts(part, start) => {
+                mend_counts(&mut self.part(part)[start..start + RECORD_BYTES]);
+            }
             Arrange::Acts(acts) => self.desk[..2].copy_from_slice(&acts.to_le_bytes()),
             Arrange::OddDesk(seed, acts) => {
                 self.desk[..RECORD_BYTES].copy_from_slice(&odd_record(seed, acts));
@@ -460,16 +481,58 @@ impl Writer {
         }
     }
 
-    /// One byte of the desk: a field at its edge, or a bit flipped.
+    /// One change to the desk's record.
     fn damage_desk(&mut self) {
-        if self.prng.percent(75) {
-            let (place, byte) = field_damage(&mut self.prng);
-            self.arrange(Arrange::Poke(Part::Desk, place, byte));
-        } else {
-            let place = self.prng.below(RECORD_BYTES);
-            let bits = 1 << self.prng.below(8);
-            self.arrange(Arrange::Flip(Part::Desk, place, bits));
+        self.damage(Part::Desk, 0);
+    }
+
+    /// One change to the record that starts at this place: a field at its edge, a
+    /// bit flipped, a valid cell written, or counts made wrong. Where a cell is
+    /// changed the counts are mended mostly, so that the cell decides.
+    fn damage(&mut self, part: Part, start: usize) {
+        let place = match self.prng.below(20) {
+            0..=10 => {
+                let (place, byte) = field_damage(&mut self.prng);
+                self.arrange(Arrange::Poke(part, start + place, byte));
+                place
+            }
+            11..=13 => {
+                let place = self.prng.below(RECORD_BYTES);
+                let bits = 1 << self.prng.below(8);
+                self.arrange(Arrange::Flip(part, start + place, bits));
+                place
+            }
+            14..=16 => {
+                let (place, [code, pen]) = odd_cell(&mut self.prng);
+                self.arrange(Arrange::Poke(part, start + place, code));
+                self.arrange(Arrange::Poke(part, start + place + 1, pen));
+                place
+            }
+            _ => return self.damage_counts(part, start),
+        };
+        if is_cell(place) && self.prng.percent(80) {
+            self.arrange(Arrange::MendCounts(part, start));
         }
+    }
+
+    /// Counts of the record that starts at this place: one is wrong by one or in
+    /// a bit, those of two rows are exchanged, or those of the two memories.
+    fn damage_counts(&mut self, part: Part, start: usize) {
+        let one = start + count_place(&mut self.prng);
+        let arrange = match self.prng.below(8) {
+            0..=3 => Arrange::Grow(part, one, self.prng.pick(&[1, 255])),
+            4 => Arrange::Flip(part, one, 1 << self.prng.below(8)),
+            5 | 6 => {
+                let other = start + count_place(&mut self.prng);
+                Arrange::Exchange(part, one, other, 1)
+            }
+            _ => {
+                let displayed = start + DISPLAYED_COUNTS.start;
+                let others = start + HIDDEN_COUNTS.start;
+                Arrange::Exchange(part, displayed, others, HIDDEN_COUNTS.len())
+            }
+        };
+        self.arrange(arrange);
     }
 
     /// Acts that are not well formed, needed by a step back or not.
@@ -561,21 +624,14 @@ impl Writer {
             _ => self.prng.within(1, 16),
         };
         let place = (s - 1) * RECORD_BYTES;
-        match self.prng.below(7) {
-            0..=2 => {
-                let (at, byte) = field_damage(&mut self.prng);
-                self.arrange(Arrange::Poke(Part::Tray, place + at, byte));
-            }
-            3 => {
-                let at = self.prng.below(RECORD_BYTES);
-                let bits = 1 << self.prng.below(8);
-                self.arrange(Arrange::Flip(Part::Tray, place + at, bits));
-            }
-            4 => {
+        match self.prng.below(8) {
+            0..=3 => self.damage(Part::Tray, place),
+            4 => self.damage_counts(Part::Tray, place),
+            5 => {
                 let byte = self.prng.pick(&[0, 1, 0xEE]);
                 self.arrange(Arrange::Fill(Part::Tray, byte));
             }
-            5 => {
+            6 => {
                 let seed = self.prng.bits();
                 let other = self.prng.pick(&[0, 0, 0, 1, 1_000]);
                 let acts = (1_000 * s as u16).wrapping_add(other);
@@ -780,6 +836,29 @@ mod tests {
         }
         assert_ne!(script(5, 0), script(6, 0));
         assert_ne!(script(5, 0), script(5, 10));
+    }
+
+    /// What a step does to counts, and in which buffer.
+    fn counts(step: &Step) -> Option<(&'static str, Part)> {
+        match *step {
+            Step::Arrange(Arrange::Grow(part, ..)) => Some(("grown", part)),
+            Step::Arrange(Arrange::Exchange(part, ..)) => Some(("exchanged", part)),
+            Step::Arrange(Arrange::MendCounts(part, ..)) => Some(("mended", part)),
+            _ => None,
+        }
+    }
+
+    #[test]
+    fn counts_are_made_wrong_and_mended_in_desks_and_in_slots() {
+        let steps: Vec<Step> = (0..200).flat_map(|number| script(1, number)).collect();
+        for part in [Part::Desk, Part::Tray] {
+            for what in ["grown", "exchanged", "mended"] {
+                let met = steps
+                    .iter()
+                    .filter(|step| counts(step) == Some((what, part)));
+                assert!(met.count() >= 5, "{what} {part:?}");
+            }
+        }
     }
 
     #[test]
