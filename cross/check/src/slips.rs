@@ -1,6 +1,7 @@
 //! Desks with one slip each, to show that the scripts find every slip and that
 //! the script in the report is short.
 
+mod counts;
 mod tapes;
 
 use paper::bytes::good;
@@ -8,6 +9,7 @@ use paper::codes::assigned;
 
 use crate::machine::{Machine, Paper};
 use crate::run_scripts;
+use counts::CountSlip;
 use tapes::TapeSlip;
 
 /// A slip. The first four are the paper's own list, as far as calls show them.
@@ -36,6 +38,7 @@ enum Slip {
     ZeroBytesNotChecked,
     NoSlotAtSixteenThousand,
     PreambleKeepsFlash,
+    Count(CountSlip),
     Tape(TapeSlip),
 }
 
@@ -72,6 +75,23 @@ impl Slipped {
     /// Whether this is the desk with that slip.
     fn is(&self, slip: Slip) -> bool {
         self.0 == slip
+    }
+
+    /// A call on the record as the slip's check sees it. A refusal leaves the one
+    /// that is lent as it is.
+    fn seen(&self, desk: &mut [u8], call: impl FnOnce(&mut [u8]) -> u32) -> u32 {
+        let before = desk.to_vec();
+        match self.0 {
+            _ if desk.len() != 1_984 => {}
+            Slip::ZeroBytesNotChecked => desk[49..64].fill(0),
+            Slip::Count(slip) => counts::overlook(slip, desk),
+            _ => {}
+        }
+        let result = call(desk);
+        if result >> 16 != 0 {
+            desk.copy_from_slice(&before);
+        }
+        result
     }
 
     /// What the slip makes of a pair that was taken.
@@ -116,6 +136,10 @@ impl Slipped {
             Slip::EocKeepsTheMark if code == Some((0x14, 0x2F)) && acted && !repeat => {
                 desk[6] = before[6];
             }
+            Slip::Count(slip) => {
+                let eoc = code == Some((0x14, 0x2F)) && acted && !repeat;
+                counts::after_take(slip, before, desk, eoc);
+            }
             Slip::PreambleKeepsFlash if b >= 0x40 && code.is_some() && acted && !repeat => {
                 for pen in [10, 13, 16] {
                     desk[pen] |= before[pen] & 0x20;
@@ -146,10 +170,7 @@ impl Machine for Slipped {
             Slip::LongLogTaken if log.len() > 48_000 => &mut log[..48_000],
             _ => log,
         };
-        if self.is(Slip::ZeroBytesNotChecked) && desk.len() == 1_984 {
-            desk[49..64].fill(0);
-        }
-        let result = Paper.take(desk, log, tray, first, second);
+        let result = self.seen(desk, |desk| Paper.take(desk, log, tray, first, second));
         if result >> 16 == 0 {
             self.after_take(&before, desk, first, second);
             if self.is(Slip::NoSlotAtSixteenThousand) && result == 16_000 {
@@ -160,23 +181,32 @@ impl Machine for Slipped {
     }
 
     fn select(&self, desk: &mut [u8], log: &mut [u8], tray: &mut [u8], channel: u8) -> u32 {
-        let stream = desk.get(3).copied();
-        let result = Paper.select(desk, log, tray, channel);
+        let before = desk.to_vec();
+        let result = self.seen(desk, |desk| Paper.select(desk, log, tray, channel));
         let full = desk.starts_with(&16_000u16.to_le_bytes());
         if self.is(Slip::FullBeforeChannel) && result >> 16 == 2 && full {
             return 3 << 16;
         }
-        if self.is(Slip::SelectKeepsTheStream) && result >> 16 == 0 {
-            desk[3] = stream.unwrap_or(0);
+        match self.0 {
+            _ if result >> 16 != 0 => {}
+            Slip::SelectKeepsTheStream => desk[3] = before[3],
+            Slip::Count(CountSlip::KeptBySelect) => counts::keep(&before, desk),
+            _ => {}
         }
         result
     }
 
     fn back(&self, desk: &mut [u8], log: &mut [u8], tray: &mut [u8], k: u32) -> u32 {
         let before = (desk.to_vec(), log.to_vec(), tray.to_vec());
-        let result = Paper.back(desk, log, tray, k);
-        if result >> 16 == 0 {
+        if let Slip::Count(slip) = self.0 {
+            counts::overlook_slots(slip, tray);
+        }
+        let result = self.seen(desk, |desk| Paper.back(desk, log, tray, k));
+        if result >> 16 != 0 {
+            tray.copy_from_slice(&before.2);
+        } else {
             match self.0 {
+                Slip::Count(CountSlip::KeptByBack) => counts::keep(&before.0, desk),
                 Slip::TraySlotKeptAfterBack => tray.copy_from_slice(&before.2),
                 Slip::LogKeptAfterBack => log.copy_from_slice(&before.1),
                 Slip::BackClearsLowerSlots => {
@@ -195,7 +225,10 @@ impl Machine for Slipped {
     }
 
     fn row(&self, desk: &[u8], row: u8) -> u32 {
-        let result = Paper.row(desk, row);
+        let result = self.seen(&mut desk.to_vec(), |desk| Paper.row(desk, row));
+        if let Slip::Count(slip) = self.0 {
+            return counts::row(slip, desk, row, result);
+        }
         let wrong = !(1..=15).contains(&row);
         if self.is(Slip::RowBeforeDesk) && result >> 16 == 6 && wrong {
             return 2 << 16;
@@ -204,7 +237,7 @@ impl Machine for Slipped {
     }
 
     fn view(&self, desk: &[u8], out: &mut [u8]) -> u32 {
-        let result = Paper.view(desk, out);
+        let result = self.seen(&mut desk.to_vec(), |desk| Paper.view(desk, out));
         if self.is(Slip::ViewWrittenOnRefusal) && result >> 16 != 0 {
             out.fill(0);
         }
@@ -241,7 +274,7 @@ fn steps_to_show(slip: Slip) -> Option<usize> {
 
 #[test]
 fn every_slip_is_found_and_its_script_is_short() {
-    for slip in SLIPS {
+    for slip in SLIPS.into_iter().chain(counts::SLIPS.map(Slip::Count)) {
         let steps = steps_to_show(slip);
         assert!(
             steps.is_some_and(|steps| steps <= 12),
