@@ -1,25 +1,29 @@
--- The archive's three demands, as they stand here, each proved by a citation. The register's part of demand 2 stands with the register. Assumes nothing.
+-- The archive's three demands and its request 2, as they stand here, each proved by a citation. The register's part of demand 2 stands with the register.
+-- Assumes nothing.
 use mathlib.Core.Path.{_≡_}
 use mathlib.Core.Bool.{true}
 use mathlib.Core.List.{List, []}
-use Prim.Native.Nat.{ℕ, _-_, _<_}
+use Prim.Native.Nat.{ℕ, _-_, _/_, _<_, _≤_}
 use lib.Dec.{leb, ltb}
-use lib.ListN.{getD}
+use lib.ListN.{length, getD}
 use Rattle.facts.specs.Choice.{pick}
+use Rattle.cell.specs.Place.{rowNumber}
 use Rattle.state.specs.State.{Desk}
 use Rattle.decode.specs.Step.{takenOf}
-use Rattle.record.specs.Layout.{readOf, recordOf}
-use Rattle.record.proofs.Laws.{readOf-recordOf}
+use Rattle.record.specs.Layout.{readOf, recordOf, areCounted, countAt, freshRecord}
+use Rattle.record.proofs.Laws.{readOf-recordOf, areCounted-recordOf}
 use Rattle.valid.specs.Valid.{isValid}
 use Rattle.valid.proofs.Laws.{recordOf-readOf}
 use Rattle.standing.specs.Acts.{Act, isAllowed}
-use Rattle.standing.specs.Calls.{Buffers, opened, refused, isFit, isReplayable, openOf, giveOf, takeOf, backOf}
-use Rattle.standing.specs.Runs.{Ask, Call, callOf, after, Fair, alone, standing}
+use Rattle.standing.specs.Calls.{Buffers, gives, opened, refused, isFit, startOf, isReplayable, openOf, giveOf, takeOf, backOf}
+use Rattle.standing.specs.Runs.{Ask, back, Call, callOf, after, Fair, alone, standing}
 use Rattle.standing.proofs.Runs.{refusal}
 use Rattle.standing.proofs.Standing.{what-stands-remains}
 use Rattle.replay.specs.Captions.{countOf, captionDecoder}
 use Rattle.replay.proofs.Laws.{captionDecoder-lawful}
 use Rattle.desk.proofs.Laws.{openOf-number, giveOf-number, backOf-number, takeOf-desk}
+use Rattle.desk.specs.Looks.{rowOf, viewOf}
+use Rattle.desk.proofs.LawsOfCounts.{Miscounted, call-leaves, miscounted-call, miscounted-row, miscounted-view, miscounted-start, rowOf-count, opened-fresh}
 
 -- DEMAND 1. "every call takes every input and ends": no public call of this crate has a requires, and each is proved to end.
 -- "a wrong length, a wrong channel, a damaged record, a full log or a step back too far gets the numbered refusal of the paper, exactly then":
@@ -60,3 +64,29 @@ record-comes-back = recordOf-readOf
 pub what-stands : (cs : List Call) → Fair captionDecoder (opened captionDecoder) cs
     → after captionDecoder (opened captionDecoder) cs ≡ after captionDecoder (opened captionDecoder) (alone (standing captionDecoder (opened captionDecoder) [] cs))
 what-stands = what-stands-remains captionDecoder captionDecoder-lawful
+
+-- REQUEST 2 of paper 02. "Keep the counts in the record ..; every act keeps them right." After every pair, selection and step back, a refused one too, they are:
+pub every-act-keeps-counts : (w : Buffers) (a : Ask) → areCounted (w .desk) ≡ true → areCounted (callOf captionDecoder w a .left .desk) ≡ true
+every-act-keeps-counts w a right = call-leaves (λ (d : List ℕ). areCounted d ≡ true) areCounted-recordOf w right a
+
+-- "A record is valid only if they are." One wrong count of the thirty, too high or too low, is 6 in every call, and no byte is touched:
+pub wrong-count-refused : (k : ℕ) → k < 30 → (w : Buffers) (a : Ask) → isFit captionDecoder w ≡ true → Miscounted (w .desk) k → callOf captionDecoder w a ≡ refused 6 w
+wrong-count-refused = miscounted-call
+
+pub wrong-count-in-slot-refused : (k : ℕ) → k < 30 → (w : Buffers) (n : ℕ) → isFit captionDecoder w ≡ true → isValid (w .desk) ≡ true → n ≤ countOf (readOf (w .desk))
+    → Miscounted (startOf captionDecoder (w .tray) ((countOf (readOf (w .desk)) - n) / 1000)) k → callOf captionDecoder w (back n) ≡ refused 6 w
+wrong-count-in-slot-refused = miscounted-start
+
+pub wrong-count-not-counted : (k : ℕ) → k < 30 → (d : List ℕ) (row : ℕ) → length d ≡ 1984 → Miscounted d k → rowOf d row ≡ gives 6 0
+wrong-count-not-counted = miscounted-row
+
+pub wrong-count-not-viewed : (k : ℕ) → k < 30 → (d : List ℕ) → Miscounted d k → viewOf d ≡ []
+wrong-count-not-viewed = miscounted-view
+
+-- "how many cells of each row are filled": what the row call gives is the byte of that row
+pub row-gives-count : (d : List ℕ) (row : ℕ) → isValid d ≡ true → 1 ≤ row → row ≤ 15 → rowOf d row ≡ gives 0 (countAt d (rowNumber row))
+row-gives-count = rowOf-count
+
+-- "the fresh record is unchanged": zeros but for channel 1, rows 15, columns 1
+pub fresh-record-unchanged : opened captionDecoder .desk ≡ freshRecord
+fresh-record-unchanged = opened-fresh
