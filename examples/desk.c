@@ -69,18 +69,19 @@ static char letter(uint8_t code)
     return code >= 0x90 && code != 0x99 ? '?' : ' ';
 }
 
-/* Prints the rows of the screen that are not empty. */
+/* Prints the rows of the screen that are not empty. How full each is the desk keeps, so that a monitor need not ask row by row. */
 static void show(const struct buffers *b)
 {
+    const uint8_t *counts = b->desk + LOIKRASUN_DISPLAYED_COUNTS;
     uint8_t cells[LOIKRASUN_VIEW_LENGTH] = {0};
     int shown = 0;
     loikrasun_view(b->desk, sizeof b->desk, cells, sizeof cells);
     for (int row = 1; row <= 15; row++) {
-        uint32_t filled = loikrasun_value(loikrasun_row(b->desk, sizeof b->desk, (uint8_t)row));
+        unsigned filled = counts[row - 1];
         if (filled == 0)
             continue;
         shown++;
-        printf("  row %2d, %2u cells |", row, (unsigned)filled);
+        printf("  row %2d, %2u cells |", row, filled);
         for (int column = 1; column <= 32; column++)
             putchar(letter(cells[((row - 1) * 32 + (column - 1)) * 2]));
         puts("|");

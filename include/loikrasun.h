@@ -38,6 +38,12 @@ enum {
     LOIKRASUN_MOST_ACTS = 16000
 };
 
+/* Where the desk keeps how many cells of each row are not empty: fifteen bytes each, row 1 first. */
+enum {
+    LOIKRASUN_DISPLAYED_COUNTS = 19,
+    LOIKRASUN_OTHER_COUNTS = 34
+};
+
 /* The numbers given back. Where several would fit, the order is 1, 6 for desk or screen, 2, 3, 4, 6 for start and acts, 5, 7. */
 enum {
     LOIKRASUN_DONE = 0,         /* done; the value is the act count, or what was asked */
@@ -83,7 +89,11 @@ uint32_t loikrasun_select(uint8_t *desk, size_t desk_length, uint8_t *log, size_
 uint32_t loikrasun_back(uint8_t *desk, size_t desk_length, uint8_t *log, size_t log_length, uint8_t *tray, size_t tray_length,
                         uint32_t k);
 
-/* How full a displayed row is. Value: the number of its cells that are not empty, up to 32. Refused with 1, 6 or 2. */
+/*
+ * How full a displayed row is. Value: the number of its cells that are not empty, up to 32. Refused with 1, 6 or 2. The desk keeps
+ * these numbers: where the last call on it was not refused, byte LOIKRASUN_DISPLAYED_COUNTS - 1 + row is this value, and byte
+ * LOIKRASUN_OTHER_COUNTS - 1 + row is that of the memory that is not displayed.
+ */
 uint32_t loikrasun_row(const uint8_t *desk, size_t desk_length, uint8_t row);
 
 /*
