@@ -1,7 +1,7 @@
 -- What the calls leave in the desk's record, and a wrong count in the desk or in a slot. Assumes nothing.
 use mathlib.Core.Path.{_≡_, refl, ap, sym}
 use mathlib.Core.Bool.{Bool, true, false, _&&_}
-use mathlib.Core.List.{List, []}
+use mathlib.Core.List.{List, [], _∷_}
 use Prim.Native.Nat.{ℕ, _+_, _-_, _*_, _/_, _<_, _≤_}
 use lib.Dec.{eqb, leb, ltb}
 use lib.ListN.{length, getD}
@@ -15,8 +15,8 @@ use Rattle.record.proofs.Laws.{recordOf-freshDesk}
 use Rattle.valid.specs.Valid.{isValid}
 use Rattle.valid.proofs.Laws.{isValid-length, miscounted-isValid, isValid-count}
 use Rattle.standing.specs.Acts.{isAllowed, areFormed}
-use Rattle.standing.specs.Calls.{Buffers, gives, Outcome, need, refused, isFit, opened, giveOf, actedOf, startOf, isStart, isReplayable, steppedOf, backOf}
-use Rattle.standing.specs.Runs.{Ask, give, back, callOf}
+use Rattle.standing.specs.Calls.{Buffers, three, gives, Outcome, need, refused, isFit, opened, giveOf, actedOf, startOf, isStart, isReplayable, steppedOf, backOf}
+use Rattle.standing.specs.Runs.{Ask, give, back, own, other, Call, call, lentOf, callOf, called, after}
 use Rattle.standing.proofs.Ways.{give-invalid, back-invalid, back-broken}
 use Rattle.replay.specs.Captions.{countOf, captionDecoder}
 use Rattle.desk.specs.Looks.{lookOf, rowOf, viewOf}
@@ -35,6 +35,15 @@ module _ (P : List ℕ → Type 0) (written : (d : Desk) → P (recordOf d)) (w 
       let n = countOf (readOf (w .desk)) in
       need-desk (isFit captionDecoder w) 1 _
       (need-desk (isValid (w .desk)) 6 _ (need-desk (leb k n) 4 _ (need-desk (isReplayable captionDecoder (w .log) (w .tray) (n - k)) 6 _ (written _))))
+
+-- and so behind any run, whatever is lent to its calls
+module _ (P : List ℕ → Type 0) (written : (d : Desk) → P (recordOf d)) where
+  pub run-leaves : (w : Buffers) (cs : List Call) → P (w .desk) → P (after captionDecoder w cs .desk)
+  run-leaves w [] held = held
+  run-leaves w (call a own l t ∷ cs) held =
+      run-leaves (called captionDecoder w (call a own l t)) cs
+      (call-leaves P written (three (w .desk) (lentOf l (w .log)) (lentOf t (w .tray))) held a)
+  run-leaves w (call a (other bytes) l t ∷ cs) held = run-leaves (called captionDecoder w (call a (other bytes) l t)) cs held
 
 -- the byte of row k of those of both memories is not how many of its cells are filled
 abbrev pub Miscounted : List ℕ → ℕ → Type 0

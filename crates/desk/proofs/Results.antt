@@ -23,7 +23,7 @@ use Rattle.replay.specs.Captions.{countOf, captionDecoder}
 use Rattle.replay.proofs.Laws.{captionDecoder-lawful}
 use Rattle.desk.proofs.Laws.{openOf-number, giveOf-number, backOf-number, takeOf-desk}
 use Rattle.desk.specs.Looks.{rowOf, viewOf}
-use Rattle.desk.proofs.LawsOfCounts.{Miscounted, call-leaves, miscounted-call, miscounted-row, miscounted-view, miscounted-start, rowOf-count, opened-fresh}
+use Rattle.desk.proofs.LawsOfCounts.{Miscounted, call-leaves, run-leaves, miscounted-call, miscounted-row, miscounted-view, miscounted-start, rowOf-count, opened-fresh}
 
 -- DEMAND 1. "every call takes every input and ends": no public call of this crate has a requires, and each is proved to end.
 -- "a wrong length, a wrong channel, a damaged record, a full log or a step back too far gets the numbered refusal of the paper, exactly then":
@@ -65,9 +65,13 @@ pub what-stands : (cs : List Call) → Fair captionDecoder (opened captionDecode
     → after captionDecoder (opened captionDecoder) cs ≡ after captionDecoder (opened captionDecoder) (alone (standing captionDecoder (opened captionDecoder) [] cs))
 what-stands = what-stands-remains captionDecoder captionDecoder-lawful
 
--- REQUEST 2 of paper 02. "Keep the counts in the record ..; every act keeps them right." After every pair, selection and step back, a refused one too, they are:
+-- REQUEST 2 of paper 02. "Keep the counts in the record ..; every act keeps them right." After every pair, selection and step back, a refused one too, they are;
+-- and so after any run of these:
 pub every-act-keeps-counts : (w : Buffers) (a : Ask) → areCounted (w .desk) ≡ true → areCounted (callOf captionDecoder w a .left .desk) ≡ true
 every-act-keeps-counts w a right = call-leaves (λ (d : List ℕ). areCounted d ≡ true) areCounted-recordOf w right a
+
+pub every-run-keeps-counts : (w : Buffers) (cs : List Call) → areCounted (w .desk) ≡ true → areCounted (after captionDecoder w cs .desk) ≡ true
+every-run-keeps-counts = run-leaves (λ (d : List ℕ). areCounted d ≡ true) areCounted-recordOf
 
 -- "A record is valid only if they are." One wrong count of the thirty, too high or too low, is 6 in every call, and no byte is touched:
 pub wrong-count-refused : (k : ℕ) → k < 30 → (w : Buffers) (a : Ask) → isFit captionDecoder w ≡ true → Miscounted (w .desk) k → callOf captionDecoder w a ≡ refused 6 w
