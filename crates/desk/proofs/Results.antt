@@ -10,7 +10,7 @@ use Rattle.facts.specs.Choice.{pick}
 use Rattle.cell.specs.Place.{rowNumber}
 use Rattle.state.specs.State.{Desk}
 use Rattle.decode.specs.Step.{takenOf}
-use Rattle.record.specs.Layout.{readOf, recordOf, areCounted, countAt, freshRecord}
+use Rattle.record.specs.Layout.{readOf, recordOf, areCounted, Counted, countAt, freshRecord}
 use Rattle.record.proofs.Laws.{readOf-recordOf, areCounted-recordOf}
 use Rattle.valid.specs.Valid.{isValid}
 use Rattle.valid.proofs.Laws.{recordOf-readOf}
@@ -23,7 +23,7 @@ use Rattle.replay.specs.Captions.{countOf, captionDecoder}
 use Rattle.replay.proofs.Laws.{captionDecoder-lawful}
 use Rattle.desk.proofs.Laws.{openOf-number, giveOf-number, backOf-number, takeOf-desk}
 use Rattle.desk.specs.Looks.{rowOf, viewOf}
-use Rattle.desk.proofs.LawsOfCounts.{Miscounted, call-leaves, run-leaves, miscounted-call, miscounted-row, miscounted-view, miscounted-start, rowOf-count, opened-fresh}
+use Rattle.desk.proofs.LawsOfCounts.{call-leaves, run-leaves, miscounted-call, miscounted-row, miscounted-view, miscounted-start, rowOf-count, opened-fresh}
 
 -- DEMAND 1. "every call takes every input and ends": no public call of this crate has a requires, and each is proved to end.
 -- "a wrong length, a wrong channel, a damaged record, a full log or a step back too far gets the numbered refusal of the paper, exactly then":
@@ -68,23 +68,23 @@ what-stands = what-stands-remains captionDecoder captionDecoder-lawful
 -- REQUEST 2 of paper 02. "Keep the counts in the record ..; every act keeps them right." After every pair, selection and step back, a refused one too, they are;
 -- and so after any run of these:
 pub every-act-keeps-counts : (w : Buffers) (a : Ask) → areCounted (w .desk) ≡ true → areCounted (callOf captionDecoder w a .left .desk) ≡ true
-every-act-keeps-counts w a right = call-leaves (λ (d : List ℕ). areCounted d ≡ true) areCounted-recordOf w right a
+every-act-keeps-counts = call-leaves (λ (d : List ℕ). areCounted d ≡ true) areCounted-recordOf
 
 pub every-run-keeps-counts : (w : Buffers) (cs : List Call) → areCounted (w .desk) ≡ true → areCounted (after captionDecoder w cs .desk) ≡ true
 every-run-keeps-counts = run-leaves (λ (d : List ℕ). areCounted d ≡ true) areCounted-recordOf
 
 -- "A record is valid only if they are." One wrong count of the thirty, too high or too low, is 6 in every call, and no byte is touched:
-pub wrong-count-refused : (k : ℕ) → k < 30 → (w : Buffers) (a : Ask) → isFit captionDecoder w ≡ true → Miscounted (w .desk) k → callOf captionDecoder w a ≡ refused 6 w
+pub wrong-count-refused : (k : ℕ) → k < 30 → (w : Buffers) (a : Ask) → isFit captionDecoder w ≡ true → (Counted (w .desk) k → ⊥) → callOf captionDecoder w a ≡ refused 6 w
 wrong-count-refused = miscounted-call
 
 pub wrong-count-in-slot-refused : (k : ℕ) → k < 30 → (w : Buffers) (n : ℕ) → isFit captionDecoder w ≡ true → isValid (w .desk) ≡ true → n ≤ countOf (readOf (w .desk))
-    → Miscounted (startOf captionDecoder (w .tray) ((countOf (readOf (w .desk)) - n) / 1000)) k → callOf captionDecoder w (back n) ≡ refused 6 w
+    → (Counted (startOf captionDecoder (w .tray) ((countOf (readOf (w .desk)) - n) / 1000)) k → ⊥) → callOf captionDecoder w (back n) ≡ refused 6 w
 wrong-count-in-slot-refused = miscounted-start
 
-pub wrong-count-not-counted : (k : ℕ) → k < 30 → (d : List ℕ) (row : ℕ) → length d ≡ 1984 → Miscounted d k → rowOf d row ≡ gives 6 0
+pub wrong-count-not-counted : (k : ℕ) → k < 30 → (d : List ℕ) (row : ℕ) → length d ≡ 1984 → (Counted d k → ⊥) → rowOf d row ≡ gives 6 0
 wrong-count-not-counted = miscounted-row
 
-pub wrong-count-not-viewed : (k : ℕ) → k < 30 → (d : List ℕ) → Miscounted d k → viewOf d ≡ []
+pub wrong-count-not-viewed : (k : ℕ) → k < 30 → (d : List ℕ) → (Counted d k → ⊥) → viewOf d ≡ []
 wrong-count-not-viewed = miscounted-view
 
 -- "how many cells of each row are filled": what the row call gives is the byte of that row

@@ -14,7 +14,7 @@ use Rattle.facts.proofs.Every.{same-equal, equal-same, blank-of}
 use Rattle.facts.proofs.Over.{drop-over, over-snoc, length-part, part-at}
 use Rattle.page.specs.Page.{filledFrom, countRowOf}
 use Rattle.page.proofs.LawsOfCounts.{filledFrom-blank, filledFrom-drop}
-use Rattle.record.specs.Layout.{countsOf, areCounted}
+use Rattle.record.specs.Layout.{countsOf, areCounted, Counted}
 
 -- The rows of both memories lie one behind the other: the counts of the first n of these thirty.
 
@@ -88,11 +88,11 @@ pub counts-areCounted : (bs : List ℕ) → part bs 19 30 ≡ countsOf (drop 64 
 unfolding areCounted
 counts-areCounted bs e = equal-same (part bs 19 30) (countsOf (drop 64 bs)) 30 e
 
-pub areCounted-at : (bs : List ℕ) → length bs ≡ 1984 → areCounted bs ≡ true → (k : ℕ) → k < 30 → getD bs (19 + k) 0 ≡ filledFrom bs (64 + k * 64) 32
+pub areCounted-at : (bs : List ℕ) → length bs ≡ 1984 → areCounted bs ≡ true → (k : ℕ) → k < 30 → Counted bs k
 areCounted-at bs size e k h =
     sym (part-at bs 19 30 k h) ∙ ap (λ (l : List ℕ). getD l k 0) (areCounted-counts bs size e) ∙ count-of bs k h
 
-pub areCounted-of : (bs : List ℕ) → length bs ≡ 1984 → ((k : ℕ) → k < 30 → getD bs (19 + k) 0 ≡ filledFrom bs (64 + k * 64) 32) → areCounted bs ≡ true
+pub areCounted-of : (bs : List ℕ) → length bs ≡ 1984 → ((k : ℕ) → k < 30 → Counted bs k) → areCounted bs ≡ true
 areCounted-of bs size e =
     let long = length-part bs 19 30 (omega arith) in
     counts-areCounted bs

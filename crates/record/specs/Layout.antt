@@ -2,6 +2,7 @@
 -- Paper 01, "Record, log, tray", first paragraph, and the last sentence of the second; paper 02, request 2 (the counts in bytes 19 to 48).
 -- Assumes nothing.
 use Prim.Native.Nat.{ℕ, zero, suc, _+_, _*_, _/_, _%_}
+use mathlib.Core.Path.{_≡_}
 use mathlib.Core.Bool.{Bool}
 use mathlib.Core.List.{List, [], _∷_, _++_}
 use lib.ListN.{getD, drop, replicate}
@@ -11,7 +12,7 @@ use Rattle.cell.specs.declared.Row.{Row}
 use Rattle.cell.specs.declared.Cursor.{Cursor}
 use Rattle.cell.specs.Place.{rowNumber, columnNumber}
 use Rattle.cell.specs.Cursor.{cursor}
-use Rattle.page.specs.Page.{displayed, nonDisplayed, countRowOf}
+use Rattle.page.specs.Page.{displayed, nonDisplayed, filledFrom, countRowOf}
 use Rattle.state.specs.declared.State.{State}
 use Rattle.state.specs.State.{Desk, desk, mode, state}
 
@@ -69,6 +70,10 @@ readOf bs = desk (stateOf bs) (drop 64 bs)
 -- the counts of a record are right: they are those of its cells
 unfoldable pub areCounted : List ℕ → Bool
 areCounted bs = sameOf (part bs 19 30) (countsOf (drop 64 bs)) 30
+
+-- and row by row: the byte of row k, of the thirty of both memories from 0 on, is how many of its cells are filled
+abbrev pub Counted : List ℕ → ℕ → Type 0
+Counted bs k = getD bs (19 + k) 0 ≡ filledFrom bs (64 + k * 64) 32
 
 -- the count of a displayed row: byte 19 is row 1's
 abbrev pub countAt : List ℕ → Row → ℕ

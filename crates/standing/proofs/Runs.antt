@@ -11,7 +11,7 @@ use Rattle.facts.specs.Choice.{pick}
 use Rattle.facts.proofs.Choice.{pick-cases}
 use Rattle.standing.specs.Acts.{Act, pair, select, isAllowed, Meant}
 use Rattle.standing.specs.Decoder.{Decoder, Lawful}
-use Rattle.standing.specs.Calls.{Buffers, three, Given, gives, Outcome, refused, need, isFit, actedOf, giveOf, isReplayable, steppedOf, backOf}
+use Rattle.standing.specs.Calls.{Buffers, three, Given, gives, Outcome, refused, isFit, actedOf, giveOf, isReplayable, steppedOf, backOf}
 use Rattle.standing.specs.Runs.{Ask, give, back, InBytes, Lent, own, other, Call, call, askOf, allOwn, lentOf, heldOf, mine, alone, applied, standsBy, callOf, answered, called, after, Fair, standing, owed, ruledBy, ruled}
 use Rattle.standing.specs.Bytes.{buffersOf}
 use Rattle.standing.proofs.Acts.{AllMeant, meant-allowed}
@@ -20,9 +20,6 @@ use Rattle.standing.proofs.Steps.{asked-meant, next-call}
 
 abbrev Refusal : Buffers → Outcome → Type 0
 Refusal w o = (o .given .number ≡ 0 → ⊥) → o ≡ refused (o .given .number) w
-
-need-refusal : (test : Bool) (number : ℕ) (w : Buffers) {o : Outcome} → Refusal w o → Refusal w (need test number w o)
-need-refusal test number w h = pick-cases (Refusal w) test (λ e. h) (λ e r. refl)
 
 held-lent : (b : Lent) (bytes : List ℕ) → heldOf b bytes (lentOf b bytes) ≡ bytes
 held-lent own bytes = refl
@@ -41,18 +38,26 @@ meant-bytes (select c ∷ acts) m = (tt, meant-bytes acts (m .1))
 module _ (D : Decoder) where
   open Decoder D using (count, readOf, isValid, limit)
 
+  -- a call is refused, or its act is done, or its step back: what holds of each of these holds of it
+  pub call-cases : (w : Buffers) (Q : Outcome → Type 0) → ((number : ℕ) → Q (refused number w)) → ((a : Act) → Q (actedOf D w a)) → ((m : ℕ) → Q (steppedOf D w m))
+      → (a : Ask) → Q (callOf D w a)
+  unfolding callOf giveOf backOf
+  call-cases w Q shut acted stepped (give a) =
+      pick-cases Q (isFit D w)
+      (λ e. pick-cases Q (isValid (w .desk))
+      (λ e. pick-cases Q (isAllowed a)
+      (λ e. pick-cases Q (ltb (count (readOf (w .desk))) limit) (λ e. acted a) (λ e. shut 3)) (λ e. shut 2)) (λ e. shut 6)) (λ e. shut 1)
+  call-cases w Q shut acted stepped (back k) =
+      let m = count (readOf (w .desk)) - k in
+      pick-cases Q (isFit D w)
+      (λ e. pick-cases Q (isValid (w .desk))
+      (λ e. pick-cases Q (leb k (count (readOf (w .desk))))
+      (λ e. pick-cases Q (isReplayable D (w .log) (w .tray) m) (λ e. stepped m) (λ e. shut 6)) (λ e. shut 4)) (λ e. shut 6)) (λ e. shut 1)
+
   -- "A refusal changes no byte."
   pub refusal : (w : Buffers) (a : Ask) → (callOf D w a .given .number ≡ 0 → ⊥) → callOf D w a ≡ refused (callOf D w a .given .number) w
-  unfolding callOf giveOf backOf actedOf steppedOf
-  refusal w (give a) =
-      need-refusal (isFit D w) 1 w
-      (need-refusal (isValid (w .desk)) 6 w
-      (need-refusal (isAllowed a) 2 w (need-refusal (ltb (count (readOf (w .desk))) limit) 3 w (λ r. absurd (r refl)))))
-  refusal w (back k) =
-      need-refusal (isFit D w) 1 w
-      (need-refusal (isValid (w .desk)) 6 w
-      (need-refusal (leb k (count (readOf (w .desk)))) 4 w
-      (need-refusal (isReplayable D (w .log) (w .tray) (count (readOf (w .desk)) - k)) 6 w (λ r. absurd (r refl)))))
+  unfolding actedOf steppedOf
+  refusal w = call-cases w (Refusal w) (λ number r. refl) (λ a r. absurd (r refl)) (λ m r. absurd (r refl))
 
   -- a refused call leaves the own buffers, whatever it is lent
   refused-leaves : (w : Buffers) (c : Call) → (answered D w c .given .number ≡ 0 → ⊥) → called D w c ≡ w

@@ -17,7 +17,7 @@ use Rattle.page.proofs.LawsOfCounts.{filledFrom-drop}
 use Rattle.window.specs.Cells.{Kept}
 use Rattle.state.specs.State.{Desk}
 use Rattle.decode.specs.Sound.{SoundDesk}
-use Rattle.record.specs.Layout.{stateOf, recordOf, readOf, areCounted, countAt, codeAt, penAt}
+use Rattle.record.specs.Layout.{stateOf, recordOf, readOf, areCounted, Counted, countAt, codeAt, penAt}
 use Rattle.record.proofs.Laws.{length-recordOf, readOf-recordOf, recordOf-counted, areCounted-recordOf, zeros-recordOf}
 use Rattle.record.proofs.LawsOfCounts.{areCounted-at}
 use Rattle.valid.specs.Valid.{isValid}
@@ -93,7 +93,7 @@ isValid-recordOf d h =
 pub isValid-counted : (bs : List ℕ) → isValid bs ≡ true → areCounted bs ≡ true
 isValid-counted bs e = isValid-clauses bs e .counts
 
-pub miscounted-isValid : (bs : List ℕ) (k : ℕ) → k < 30 → (getD bs (19 + k) 0 ≡ filledFrom bs (64 + k * 64) 32 → ⊥) → isValid bs ≡ false
+pub miscounted-isValid : (bs : List ℕ) (k : ℕ) → k < 30 → (Counted bs k → ⊥) → isValid bs ≡ false
 miscounted-isValid bs k h wrong =
     same-test (isValid bs) false
     (λ e. absurd (wrong (areCounted-at bs (isValid-length bs e) (isValid-counted bs e) k h))) (λ e. absurd (false≢true e))

@@ -16,7 +16,7 @@ use Rattle.page.proofs.LawsOfCounts.{filledFrom-blank}
 use Rattle.window.specs.Window.{aboveOf}
 use Rattle.state.specs.declared.Mode.{Mode}
 use Rattle.state.specs.declared.State.{State}
-use Rattle.record.specs.Layout.{stateOf, areCounted, codeAt}
+use Rattle.record.specs.Layout.{stateOf, areCounted, Counted, codeAt}
 use Rattle.record.proofs.LawsOfCounts.{areCounted-at, areCounted-of}
 use Rattle.valid.specs.Valid.{isValidState, isCellAt, isWindowed, isValid}
 use Rattle.valid.specs.Check.{isRow, isCounted, areRows, isFramed, checkOf}
@@ -42,7 +42,7 @@ module _ (bs : List ℕ) where
 
   -- Thirty rows of 32 cells are 960 cells, and the counts of the rows are those of the record.
 
-  rows-at : areRows bs ≡ true → (r : ℕ) → r < 30 → (isRow bs (64 + r * 64) ≡ true) × (getD bs (19 + r) 0 ≡ filledFrom bs (64 + r * 64) 32)
+  rows-at : areRows bs ≡ true → (r : ℕ) → r < 30 → (isRow bs (64 + r * 64) ≡ true) × Counted bs r
   unfolding areRows isCounted
   rows-at e r h =
       let t = every-at (λ (n : ℕ). isCounted bs (64 + n * 64) (getD bs (19 + n) 0)) 30 e r h in
