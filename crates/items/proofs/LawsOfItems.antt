@@ -1,14 +1,11 @@
 -- What the functions of one item give is what its definitions say, way by way. Assumes nothing.
 use mathlib.Core.Path.{_≡_, refl, _∙_}
-use mathlib.Core.Bool.{Bool, true, false}
+use mathlib.Core.Bool.{true, false}
 use mathlib.Core.List.{List, [], _∷_}
 use Prim.Native.Nat.{ℕ, _+_, _-_, _*_, _/_, _%_, _<_, _≤_}
-use lib.Dec.{leb}
 use lib.ListN.{length, getD}
-use borrow.Author.Tests.{eq-eqb, ne-eqb, lt-ltb, le-ltb, le-leb, lt-leb, leb-true}
-use Rattle.facts.specs.Every.{every}
+use borrow.Author.Tests.{eq-eqb, ne-eqb, lt-ltb, le-ltb, le-leb, lt-leb}
 use Rattle.facts.specs.Over.{over}
-use Rattle.facts.proofs.Every.{every-at}
 use Rattle.wire.specs.Byte.{sentOf}
 use Rattle.facts.proofs.Over.{over-then}
 use Rattle.tape.specs.declared.Item.{Item}
@@ -60,22 +57,10 @@ module _ (pen lead : ℕ) where
     unfolding indentOf
     indent-other = rw (ne-eqb (pen % 16) 0 other)
 
-  pub preamble-joined : (row : ℕ) {style indent : ℕ} → style ≡ styleOf pen lead → indent ≡ indentOf pen lead
-      → item (getD firsts row 0) (getD seconds row 0 + (style + pen / 16)) indent ≡ preambleItemOf row pen lead
+  pub preamble-joined : (row : ℕ) {first second style indent : ℕ} → first ≡ getD firsts row 0 → second ≡ getD seconds row 0 → style ≡ styleOf pen lead → indent ≡ indentOf pen lead
+      → item first (second + (style + pen / 16)) indent ≡ preambleItemOf row pen lead
   unfolding preambleItemOf
-  preamble-joined row e f = λ i. item (getD firsts row 0) (getD seconds row 0 + (e i + pen / 16)) (f i)
-
-isLow : ℕ → Bool
-isLow row = leb (getD seconds row 0) 0x60
-
-all-low : every isLow 15 ≡ true
-unfolding isLow
-all-low = refl
-
--- so that the second value with its style is a byte
-pub seconds-low : (row : ℕ) → row < 15 → getD seconds row 0 ≤ 0x60
-unfolding isLow
-seconds-low row h = leb-true (getD seconds row 0) 0x60 (every-at isLow 15 all-low row h)
+  preamble-joined row a b e f = λ i. item (a i) (b i + (e i + pen / 16)) (f i)
 
 -- The bytes of an item.
 

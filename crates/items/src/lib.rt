@@ -1,4 +1,7 @@
 // One item of a tape: what comes next by the cells of a row, a row's preamble, and the raw bytes of an item behind what a buffer holds already.
+mod rows;
+
+use rows::place;
 use tape::Item;
 ghost use mathlib.Core.Path.{_≡_};
 ghost use mathlib.Core.List.{[], _∷_};
@@ -33,43 +36,6 @@ pub const EDM: Item = Item {
     second: 0x2c,
     columns: 0,
 };
-
-// The first value of each row's preambles, from the top, and the least second value.
-const FIRSTS: [u8; 15] = [
-    0x11,
-    0x11,
-    0x12,
-    0x12,
-    0x15,
-    0x15,
-    0x16,
-    0x16,
-    0x17,
-    0x17,
-    0x10,
-    0x13,
-    0x13,
-    0x14,
-    0x14,
-];
-
-const SECONDS: [u8; 15] = [
-    0x40,
-    0x60,
-    0x40,
-    0x60,
-    0x40,
-    0x60,
-    0x40,
-    0x60,
-    0x40,
-    0x60,
-    0x40,
-    0x40,
-    0x60,
-    0x40,
-    0x60,
-];
 
 // Two bytes behind the first `n` of a buffer.
 fn put_pair(out: &mut [u8], n: usize, a: u8, b: u8)
@@ -172,12 +138,11 @@ pub fn preamble_item(row: usize, pen: u8, lead: usize) -> Item
     requires { ⌜ (row < 15) × (lead < 32) ⌝ }
     ensures { λ r. ⌜ r ≡ preambleItemOf row pen lead ⌝ }
 {
-    let firsts = FIRSTS;
-    let seconds = SECONDS;
+    let place = place(row);
     let low = style(pen, lead) + pen / 16;
     Item {
-        first: firsts[row],
-        second: seconds[row] + low,
+        first: 0x10 + place / 2,
+        second: 0x40 + place % 2 * 0x20 + low,
         columns: indent(pen, lead),
     }
 }
