@@ -38,11 +38,12 @@ enum Slip {
     ZeroBytesNotChecked,
     NoSlotAtSixteenThousand,
     PreambleKeepsFlash,
+    RowOfTheNextPlace,
     Count(CountSlip),
     Tape(TapeSlip),
 }
 
-const SLIPS: [Slip; 23] = [
+const SLIPS: [Slip; 24] = [
     Slip::RepeatAcrossANull,
     Slip::FlashOnWithoutItsSpace,
     Slip::TraySlotKeptAfterBack,
@@ -66,6 +67,7 @@ const SLIPS: [Slip; 23] = [
     Slip::ZeroBytesNotChecked,
     Slip::NoSlotAtSixteenThousand,
     Slip::PreambleKeepsFlash,
+    Slip::RowOfTheNextPlace,
 ];
 
 /// The paper's desk with one slip.
@@ -143,6 +145,15 @@ impl Slipped {
             Slip::PreambleKeepsFlash if b >= 0x40 && code.is_some() && acted && !repeat => {
                 for pen in [10, 13, 16] {
                     desk[pen] |= before[pen] & 0x20;
+                }
+            }
+            Slip::RowOfTheNextPlace
+                if matches!(code, Some((0x13, 0x40..=0x5F))) && acted && !repeat =>
+            {
+                for row in [11, 14] {
+                    if desk[row] != before[row] {
+                        desk[row] = 5;
+                    }
                 }
             }
             _ => {}

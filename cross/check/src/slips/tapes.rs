@@ -33,6 +33,7 @@ pub enum TapeSlip {
     IndentTooFar,
     TabOfTheOtherChannel,
     PreambleSentAgain,
+    PlaceOfTheNextRow,
     // another answer
     ValueInPairs,
     ZerosBehind,
@@ -43,7 +44,7 @@ pub enum TapeSlip {
     UnwritableAsInvalid,
 }
 
-const SLIPS: [TapeSlip; 27] = [
+const SLIPS: [TapeSlip; 28] = [
     TapeSlip::LastColumnLost,
     TapeSlip::SpaceAsGap,
     TapeSlip::TransparentAsGap,
@@ -64,6 +65,7 @@ const SLIPS: [TapeSlip; 27] = [
     TapeSlip::IndentTooFar,
     TapeSlip::TabOfTheOtherChannel,
     TapeSlip::PreambleSentAgain,
+    TapeSlip::PlaceOfTheNextRow,
     TapeSlip::ValueInPairs,
     TapeSlip::ZerosBehind,
     TapeSlip::WrittenOnRefusal,
@@ -188,6 +190,10 @@ fn slip_in_pairs(slip: TapeSlip, mut pairs: Vec<Pair>) -> Vec<Pair> {
             let again = place.map_or(Vec::new(), |place| vec![pairs[place]; 2]);
             let place = place.unwrap_or(0);
             pairs.splice(place..place, again);
+        }
+        TapeSlip::PlaceOfTheNextRow => {
+            let five = |&pair: &Pair| matches!(low(pair), (0x15, 0x40..=0x5F));
+            change(&mut pairs, five, |(a, b)| good((a & 0x7F) - 2, b & 0x7F));
         }
         _ => {}
     }
