@@ -13,7 +13,7 @@ use Rattle.decode.specs.Step.{takenOf}
 use Rattle.record.specs.Layout.{readOf, recordOf, areCounted, Counted, countAt, freshRecord}
 use Rattle.record.proofs.Laws.{readOf-recordOf, areCounted-recordOf}
 use Rattle.valid.specs.Valid.{isValid}
-use Rattle.valid.proofs.Laws.{recordOf-readOf}
+use Rattle.valid.proofs.Laws.{recordOf-readOf, miscounted-isValid}
 use Rattle.standing.specs.Acts.{Act, isAllowed}
 use Rattle.standing.specs.Calls.{Buffers, gives, opened, refused, isFit, startOf, isReplayable, openOf, giveOf, takeOf, backOf}
 use Rattle.standing.specs.Runs.{Ask, back, Call, callOf, after, Fair, alone, standing}
@@ -23,7 +23,7 @@ use Rattle.replay.specs.Captions.{countOf, captionDecoder}
 use Rattle.replay.proofs.Laws.{captionDecoder-lawful}
 use Rattle.desk.proofs.Laws.{openOf-number, giveOf-number, backOf-number, takeOf-desk}
 use Rattle.desk.specs.Looks.{rowOf, viewOf}
-use Rattle.desk.proofs.LawsOfCounts.{call-leaves, run-leaves, miscounted-call, miscounted-row, miscounted-view, miscounted-start, rowOf-count, opened-fresh}
+use Rattle.desk.proofs.LawsOfRecords.{call-leaves, run-leaves, invalid-call, invalid-row, invalid-view, invalid-start, rowOf-count, opened-fresh}
 
 -- DEMAND 1. "every call takes every input and ends": no public call of this crate has a requires, and each is proved to end.
 -- "a wrong length, a wrong channel, a damaged record, a full log or a step back too far gets the numbered refusal of the paper, exactly then":
@@ -75,17 +75,17 @@ every-run-keeps-counts = run-leaves (λ (d : List ℕ). areCounted d ≡ true) a
 
 -- "A record is valid only if they are." One wrong count of the thirty, too high or too low, is 6 in every call, and no byte is touched:
 pub wrong-count-refused : (k : ℕ) → k < 30 → (w : Buffers) (a : Ask) → isFit captionDecoder w ≡ true → (Counted (w .desk) k → ⊥) → callOf captionDecoder w a ≡ refused 6 w
-wrong-count-refused = miscounted-call
+wrong-count-refused k h w a fit wrong = invalid-call w a fit (miscounted-isValid (w .desk) k h wrong)
 
 pub wrong-count-in-slot-refused : (k : ℕ) → k < 30 → (w : Buffers) (n : ℕ) → isFit captionDecoder w ≡ true → isValid (w .desk) ≡ true → n ≤ countOf (readOf (w .desk))
     → (Counted (startOf captionDecoder (w .tray) ((countOf (readOf (w .desk)) - n) / 1000)) k → ⊥) → callOf captionDecoder w (back n) ≡ refused 6 w
-wrong-count-in-slot-refused = miscounted-start
+wrong-count-in-slot-refused k h w n fit valid most wrong = invalid-start w n fit valid most (miscounted-isValid _ k h wrong)
 
 pub wrong-count-not-counted : (k : ℕ) → k < 30 → (d : List ℕ) (row : ℕ) → length d ≡ 1984 → (Counted d k → ⊥) → rowOf d row ≡ gives 6 0
-wrong-count-not-counted = miscounted-row
+wrong-count-not-counted k h d row size wrong = invalid-row d row size (miscounted-isValid d k h wrong)
 
 pub wrong-count-not-viewed : (k : ℕ) → k < 30 → (d : List ℕ) → (Counted d k → ⊥) → viewOf d ≡ []
-wrong-count-not-viewed = miscounted-view
+wrong-count-not-viewed k h d wrong = invalid-view d (miscounted-isValid d k h wrong)
 
 -- "how many cells of each row are filled": what the row call gives is the byte of that row
 pub row-gives-count : (d : List ℕ) (row : ℕ) → isValid d ≡ true → 1 ≤ row → row ≤ 15 → rowOf d row ≡ gives 0 (countAt d (rowNumber row))

@@ -38,26 +38,31 @@ meant-bytes (select c ∷ acts) m = (tt, meant-bytes acts (m .1))
 module _ (D : Decoder) where
   open Decoder D using (count, readOf, isValid, limit)
 
-  -- a call is refused, or its act is done, or its step back: what holds of each of these holds of it
-  pub call-cases : (w : Buffers) (Q : Outcome → Type 0) → ((number : ℕ) → Q (refused number w)) → ((a : Act) → Q (actedOf D w a)) → ((m : ℕ) → Q (steppedOf D w m))
-      → (a : Ask) → Q (callOf D w a)
+  -- a call is refused, or its act is done, or its step back, each of these where the tests let it: what holds of them holds of it
+  pub call-cases : (w : Buffers) (Q : Ask → Outcome → Type 0) → ((a : Ask) (number : ℕ) → Q a (refused number w))
+      → ((a : Act) → isAllowed a ≡ true → count (readOf (w .desk)) < limit → Q (give a) (actedOf D w a))
+      → ((k : ℕ) → isReplayable D (w .log) (w .tray) (count (readOf (w .desk)) - k) ≡ true → Q (back k) (steppedOf D w (count (readOf (w .desk)) - k)))
+      → (a : Ask) → Q a (callOf D w a)
   unfolding callOf giveOf backOf
   call-cases w Q shut acted stepped (give a) =
-      pick-cases Q (isFit D w)
-      (λ e. pick-cases Q (isValid (w .desk))
-      (λ e. pick-cases Q (isAllowed a)
-      (λ e. pick-cases Q (ltb (count (readOf (w .desk))) limit) (λ e. acted a) (λ e. shut 3)) (λ e. shut 2)) (λ e. shut 6)) (λ e. shut 1)
+      let n = count (readOf (w .desk)) in
+      let refuse = shut (give a) in
+      pick-cases (Q (give a)) (isFit D w)
+      (λ e. pick-cases (Q (give a)) (isValid (w .desk))
+      (λ e. pick-cases (Q (give a)) (isAllowed a)
+      (λ allowed. pick-cases (Q (give a)) (ltb n limit) (λ room. acted a allowed (ltb-true n limit room)) (λ e. refuse 3)) (λ e. refuse 2)) (λ e. refuse 6)) (λ e. refuse 1)
   call-cases w Q shut acted stepped (back k) =
-      let m = count (readOf (w .desk)) - k in
-      pick-cases Q (isFit D w)
-      (λ e. pick-cases Q (isValid (w .desk))
-      (λ e. pick-cases Q (leb k (count (readOf (w .desk))))
-      (λ e. pick-cases Q (isReplayable D (w .log) (w .tray) m) (λ e. stepped m) (λ e. shut 6)) (λ e. shut 4)) (λ e. shut 6)) (λ e. shut 1)
+      let n = count (readOf (w .desk)) in
+      let refuse = shut (back k) in
+      pick-cases (Q (back k)) (isFit D w)
+      (λ e. pick-cases (Q (back k)) (isValid (w .desk))
+      (λ e. pick-cases (Q (back k)) (leb k n)
+      (λ e. pick-cases (Q (back k)) (isReplayable D (w .log) (w .tray) (n - k)) (λ there. stepped k there) (λ e. refuse 6)) (λ e. refuse 4)) (λ e. refuse 6)) (λ e. refuse 1)
 
   -- "A refusal changes no byte."
   pub refusal : (w : Buffers) (a : Ask) → (callOf D w a .given .number ≡ 0 → ⊥) → callOf D w a ≡ refused (callOf D w a .given .number) w
   unfolding actedOf steppedOf
-  refusal w = call-cases w (Refusal w) (λ number r. refl) (λ a r. absurd (r refl)) (λ m r. absurd (r refl))
+  refusal w = call-cases w (λ (a : Ask) (o : Outcome). Refusal w o) (λ a number r. refl) (λ a allowed room r. absurd (r refl)) (λ k there r. absurd (r refl))
 
   -- a refused call leaves the own buffers, whatever it is lent
   refused-leaves : (w : Buffers) (c : Call) → (answered D w c .given .number ≡ 0 → ⊥) → called D w c ≡ w
