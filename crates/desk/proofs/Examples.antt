@@ -1,4 +1,4 @@
--- The paper's worked examples P1 to P13, proved about the definitions by one statement over one list. Assumes nothing.
+-- The paper's worked examples P1 to P13, and windows at the top (paper 02, request 4), proved about the definitions by one statement over one list. Assumes nothing.
 use mathlib.Core.Path.{_≡_, refl, ap, _∙_}
 use mathlib.Core.Bool.{Bool, true, false, _&&_}
 use mathlib.Core.List.{List, [], _∷_, map}
@@ -13,7 +13,7 @@ use Rattle.cell.specs.Cursor.{afterWriteOf, backOf, tabOf, preambleColumnOf}
 use Rattle.codes.specs.Rows.{preambleRowOf}
 use Rattle.codes.specs.Codes.{channelOf, withoutChannelOf, midRowOrSpecialOf, tabOffsetOf, preambleCodeOf, channelOneCodeOf, codeOf}
 use Rattle.page.specs.Page.{writeCellOf, emptyCellOf, emptyFromOf, emptyRowsOf, emptyAllOf, exchangedOf}
-use Rattle.window.specs.Window.{rollOf, emptyOutsideOf, moveOf}
+use Rattle.window.specs.Window.{loweredOf, rollOf, emptyOutsideOf, moveOf}
 use Rattle.state.specs.State.{Desk}
 use Rattle.state.specs.Style.{isReady, cursorOf, withCursor, memoryOf}
 use Rattle.typing.specs.Typing.{writeOf, turnedOf, attributeOf, midRowOf, fonOf}
@@ -121,10 +121,18 @@ examples =
     -- P13, and what it is like
     ∷ shows steppedBack ((hidden 15, 0x43 ∷ 0 ∷ 0x44 ∷ 0 ∷ []) ∷ []) 2 15 3
     ∷ shows neverTaken ((hidden 15, 0x43 ∷ 0 ∷ 0x44 ∷ 0 ∷ []) ∷ []) 2 15 3
+    -- request 4: RU4 at row 2 and four lines, "A" to "D", on rows 1 to 4
+    ∷ shows (takes (0x94a7 ∷ 0x9170 ∷ 0xc180 ∷ 0x94ad ∷ 0xc280 ∷ 0x94ad ∷ 0x4380 ∷ 0x94ad ∷ 0xc480 ∷ []))
+    ((shown 1, 0x41 ∷ []) ∷ (shown 2, 0x42 ∷ []) ∷ (shown 3, 0x43 ∷ []) ∷ (shown 4, 0x44 ∷ []) ∷ []) 1 4 2
+    -- RU2 at row 2 and RU4 after a tab: the line goes down with the base row, the column stays; RU4 at row 2 and RU2: the base row stays
+    ∷ shows (takes (0x9425 ∷ 0x9170 ∷ 0xc849 ∷ 0x97a1 ∷ 0x94a7 ∷ [])) ((shown 4, hi) ∷ []) 1 4 4
+    ∷ shows (takes (0x94a7 ∷ 0x9170 ∷ 0xc849 ∷ 0x9425 ∷ [])) ((shown 4, hi) ∷ []) 1 4 3
+    -- pop-on while the mark is set: row 1 as it is
+    ∷ shows (takes (0x94a7 ∷ 0x9420 ∷ 0x91d0 ∷ 0xc849 ∷ [])) ((hidden 1, hi) ∷ []) 2 1 3
     ∷ []
 
 all-hold : allHold examples ≡ true
-unfolding allHold holds same filled shownBy owed isChannel isGood lowSeven packOf unpackOf afterMidRow ofPreamble flashing afterWriteOf backOf tabOf preambleColumnOf preambleRowOf channelOf withoutChannelOf midRowOrSpecialOf tabOffsetOf preambleCodeOf channelOneCodeOf codeOf writeCellOf emptyCellOf emptyFromOf emptyRowsOf emptyAllOf exchangedOf rollOf emptyOutsideOf moveOf isReady cursorOf withCursor memoryOf writeOf turnedOf attributeOf midRowOf fonOf bsOf derOf tabbedOf movedOf preambleOf rclOf rdcOf textOf edmOf enmOf eocOf openedOf framedOf ruOf crOf gated actOf clearedOf typeOf asTextOf ruleOneOf ruleTwoOf controlOf ruleThreeOf ruleFourOf pairOf takenOf freshDesk
+unfolding allHold holds same filled shownBy owed isChannel isGood lowSeven packOf unpackOf afterMidRow ofPreamble flashing afterWriteOf backOf tabOf preambleColumnOf preambleRowOf channelOf withoutChannelOf midRowOrSpecialOf tabOffsetOf preambleCodeOf channelOneCodeOf codeOf writeCellOf emptyCellOf emptyFromOf emptyRowsOf emptyAllOf exchangedOf loweredOf rollOf emptyOutsideOf moveOf isReady cursorOf withCursor memoryOf writeOf turnedOf attributeOf midRowOf fonOf bsOf derOf tabbedOf movedOf preambleOf rclOf rdcOf textOf edmOf enmOf eocOf openedOf framedOf ruOf crOf gated actOf clearedOf typeOf asTextOf ruleOneOf ruleTwoOf controlOf ruleThreeOf ruleFourOf pairOf takenOf freshDesk
 all-hold = refl
 
 -- the desk's record after the calls of an example is that of the desk it speaks of, and log and tray are those of the acts that stand

@@ -1,4 +1,4 @@
--- The archive's three demands and its request 2, as they stand here, each proved by a citation. The register's part of demand 2 stands with the register.
+-- The archive's three demands and its requests 2 and 4, as they stand here, each proved by a citation. The register's part of demand 2 stands with the register.
 -- Assumes nothing.
 use mathlib.Core.Path.{_≡_}
 use mathlib.Core.Bool.{true}
@@ -8,22 +8,22 @@ use lib.Dec.{leb, ltb}
 use lib.ListN.{length, getD}
 use Rattle.facts.specs.Choice.{pick}
 use Rattle.cell.specs.Place.{rowNumber}
-use Rattle.state.specs.State.{Desk}
+use Rattle.state.specs.State.{Desk, Fits}
 use Rattle.decode.specs.Step.{takenOf}
-use Rattle.record.specs.Layout.{readOf, recordOf, areCounted, Counted, countAt, freshRecord}
+use Rattle.record.specs.Layout.{stateOf, readOf, recordOf, areCounted, Counted, countAt, freshRecord}
 use Rattle.record.proofs.Laws.{readOf-recordOf, areCounted-recordOf}
 use Rattle.valid.specs.Valid.{isValid}
-use Rattle.valid.proofs.Laws.{recordOf-readOf, miscounted-isValid}
+use Rattle.valid.proofs.Laws.{recordOf-readOf, miscounted-isValid, isValid-fits, misfit-isValid}
 use Rattle.standing.specs.Acts.{Act, isAllowed}
 use Rattle.standing.specs.Calls.{Buffers, gives, opened, refused, isFit, startOf, isReplayable, openOf, giveOf, takeOf, backOf}
-use Rattle.standing.specs.Runs.{Ask, back, Call, callOf, after, Fair, alone, standing}
+use Rattle.standing.specs.Runs.{Ask, back, InBytes, Call, callOf, after, Fair, alone, standing}
 use Rattle.standing.proofs.Runs.{refusal}
 use Rattle.standing.proofs.Standing.{what-stands-remains}
 use Rattle.replay.specs.Captions.{countOf, captionDecoder}
 use Rattle.replay.proofs.Laws.{captionDecoder-lawful}
 use Rattle.desk.proofs.Laws.{openOf-number, giveOf-number, backOf-number, takeOf-desk}
 use Rattle.desk.specs.Looks.{rowOf, viewOf}
-use Rattle.desk.proofs.LawsOfRecords.{call-leaves, run-leaves, invalid-call, invalid-row, invalid-view, invalid-start, rowOf-count, opened-fresh}
+use Rattle.desk.proofs.LawsOfRecords.{call-leaves, run-leaves, call-keeps-valid, invalid-call, invalid-row, invalid-view, invalid-start, rowOf-count, opened-fresh}
 
 -- DEMAND 1. "every call takes every input and ends": no public call of this crate has a requires, and each is proved to end.
 -- "a wrong length, a wrong channel, a damaged record, a full log or a step back too far gets the numbered refusal of the paper, exactly then":
@@ -94,3 +94,26 @@ row-gives-count = rowOf-count
 -- "the fresh record is unchanged": zeros but for channel 1, rows 15, columns 1
 pub fresh-record-unchanged : opened captionDecoder .desk ≡ freshRecord
 fresh-record-unchanged = opened-fresh
+
+-- REQUEST 4 of paper 02. "A valid record with the mark set has its base row no smaller than its depth."
+pub valid-record-fits : (d : List ℕ) → isValid d ≡ true → Fits (stateOf d .mode)
+valid-record-fits = isValid-fits
+
+-- Every pair, selection and step back keeps that, from any valid desk, reached by a run or not: it leaves a valid one.
+pub every-call-keeps-valid : (w : Buffers) (a : Ask) → isValid (w .desk) ≡ true → ((i : ℕ) → getD (w .log) i 0 < 256) → InBytes a
+    → isValid (callOf captionDecoder w a .left .desk) ≡ true
+every-call-keeps-valid = call-keeps-valid
+
+-- A base row that is too small for its depth, with the mark set, is 6 in every call, and no byte is touched:
+pub misfit-refused : (w : Buffers) (a : Ask) → isFit captionDecoder w ≡ true → (Fits (stateOf (w .desk) .mode) → ⊥) → callOf captionDecoder w a ≡ refused 6 w
+misfit-refused w a fit wrong = invalid-call w a fit (misfit-isValid (w .desk) wrong)
+
+pub misfit-in-slot-refused : (w : Buffers) (n : ℕ) → isFit captionDecoder w ≡ true → isValid (w .desk) ≡ true → n ≤ countOf (readOf (w .desk))
+    → (Fits (stateOf (startOf captionDecoder (w .tray) ((countOf (readOf (w .desk)) - n) / 1000)) .mode) → ⊥) → callOf captionDecoder w (back n) ≡ refused 6 w
+misfit-in-slot-refused w n fit valid most wrong = invalid-start w n fit valid most (misfit-isValid _ wrong)
+
+pub misfit-not-counted : (d : List ℕ) (row : ℕ) → length d ≡ 1984 → (Fits (stateOf d .mode) → ⊥) → rowOf d row ≡ gives 6 0
+misfit-not-counted d row size wrong = invalid-row d row size (misfit-isValid d wrong)
+
+pub misfit-not-viewed : (d : List ℕ) → (Fits (stateOf d .mode) → ⊥) → viewOf d ≡ []
+misfit-not-viewed d wrong = invalid-view d (misfit-isValid d wrong)

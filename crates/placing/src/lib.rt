@@ -7,7 +7,6 @@ ghost use mathlib.Core.List.{List};
 ghost use Prim.Native.Nat.{ℕ, _≤_};
 ghost use Rattle.cell.specs.Cursor.{Placed};
 ghost use Rattle.state.specs.State.{captions};
-ghost use Rattle.state.specs.Style.{rollUp};
 ghost use Rattle.state.specs.Ranges.{Ranged, Sound};
 ghost use Rattle.placing.specs.Placing.{bsOf, derOf, tabbedOf, movedOf, preambleOf};
 
@@ -49,9 +48,9 @@ pub fn tabbed(mode: Mode, n: u8) -> Mode
     mode.with_cursor(c.tab(n))
 }
 
-// The window moves to the new base row. A preamble on the same base row, as live captions send at every line, moves nothing: no cell is touched.
-fn moved(mut mode: Mode, cells: &mut [u8], to: Cursor) -> Mode
-    requires { ⌜ Sound (captions mode (now cells)) × Placed to × (mode .style ≡ rollUp) ⌝ }
+// The window moves to a base row where it fits. To the same one, as live captions ask at every line, nothing moves: no cell is touched.
+pub fn moved(mut mode: Mode, cells: &mut [u8], to: Cursor) -> Mode
+    requires { ⌜ Sound (captions mode (now cells)) × Placed to × (mode .mark ≡ 1) × (mode .depth ≤ to .row .0) ⌝ }
     ensures { λ r. ⌜ captions r (now (cells .exit)) ≡ movedOf (captions mode (now (cells .entry))) to ⌝ }
 {
     let from = mode.roll;
@@ -65,14 +64,14 @@ fn moved(mut mode: Mode, cells: &mut [u8], to: Cursor) -> Mode
     mode
 }
 
-// Row, column and pen of the style's cursor.
+// Row, column and pen of the style's cursor. In roll-up the window moves, to a row where it fits.
 pub fn preamble(mode: Mode, cells: &mut [u8], to: Cursor) -> Mode
     requires { ⌜ Sound (captions mode (now cells)) × Placed to ⌝ }
     ensures { λ r. ⌜ captions r (now (cells .exit)) ≡ preambleOf (captions mode (now (cells .entry))) to ⌝ }
 {
     let style = mode.style;
     if style == ROLL_UP {
-        return moved(mode, cells, to);
+        return moved(mode, cells, window::lowered(to, mode.depth));
     }
     mode.with_cursor(to)
 }

@@ -5,6 +5,7 @@ use cell::Row;
 use state::Mode;
 use state::ROLL_UP;
 ghost use mathlib.Core.Path.{_≡_};
+ghost use Prim.Native.Nat.{_≤_};
 ghost use Rattle.state.specs.State.{captions};
 ghost use Rattle.state.specs.Ranges.{Sound};
 ghost use Rattle.rollup.specs.Rollup.{plainIn, openedOf, framedOf, ruOf, crOf};
@@ -20,22 +21,23 @@ fn plain_in(row: Row) -> Cursor
     }
 }
 
-// Mark clear: the displayed memory is emptied, and the base row is 15.
-fn opened(mut mode: Mode, cells: &mut [u8]) -> Mode
-    requires { ⌜ Sound (captions mode (now cells)) ⌝ }
-    ensures { λ r. ⌜ captions r (now (cells .exit)) ≡ openedOf (captions mode (now (cells .entry))) ⌝ }
+// Mark clear: the displayed memory is emptied, and the base row is 15. Mark set: the window moves where depth n does not fit at its base row.
+fn opened(mut mode: Mode, cells: &mut [u8], n: u8) -> Mode
+    requires { ⌜ Sound (captions mode (now cells)) × (n ≤ 4) ⌝ }
+    ensures { λ r. ⌜ captions r (now (cells .exit)) ≡ openedOf (captions mode (now (cells .entry))) n ⌝ }
 {
     if mode.mark == 0 {
         page::empty_all(cells, page::DISPLAYED);
         mode.roll = plain_in(Row(15));
         return mode;
     }
-    mode
+    let cursor = mode.roll;
+    placing::moved(mode, cells, window::lowered(cursor, n))
 }
 
 // Roll-up with depth n: all but the window is emptied.
 fn framed(mut mode: Mode, cells: &mut [u8], n: u8) -> Mode
-    requires { ⌜ Sound (captions mode (now cells)) ⌝ }
+    requires { ⌜ Sound (captions mode (now cells)) × (n ≤ mode .roll .row .0) ⌝ }
     ensures { λ r. ⌜ captions r (now (cells .exit)) ≡ framedOf (captions mode (now (cells .entry))) n ⌝ }
 {
     let cursor = mode.roll;
@@ -50,10 +52,10 @@ fn framed(mut mode: Mode, cells: &mut [u8], n: u8) -> Mode
 }
 
 pub fn ru(mode: Mode, cells: &mut [u8], n: u8) -> Mode
-    requires { ⌜ Sound (captions mode (now cells)) ⌝ }
+    requires { ⌜ Sound (captions mode (now cells)) × (n ≤ 4) ⌝ }
     ensures { λ r. ⌜ captions r (now (cells .exit)) ≡ ruOf (captions mode (now (cells .entry))) n ⌝ }
 {
-    let open = opened(mode, cells);
+    let open = opened(mode, cells, n);
     framed(open, cells, n)
 }
 

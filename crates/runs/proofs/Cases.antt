@@ -13,7 +13,7 @@ use Rattle.cell.specs.Cursor.{afterWriteOf, backOf, tabOf, preambleColumnOf}
 use Rattle.codes.specs.Rows.{preambleRowOf}
 use Rattle.codes.specs.Codes.{channelOf, withoutChannelOf, midRowOrSpecialOf, tabOffsetOf, preambleCodeOf, channelOneCodeOf, codeOf}
 use Rattle.page.specs.Page.{writeCellOf, emptyCellOf, emptyFromOf, emptyRowsOf, emptyAllOf, exchangedOf}
-use Rattle.window.specs.Window.{rollOf, emptyOutsideOf, moveOf}
+use Rattle.window.specs.Window.{loweredOf, rollOf, emptyOutsideOf, moveOf}
 use Rattle.state.specs.Style.{isReady, cursorOf, withCursor, memoryOf}
 use Rattle.typing.specs.Typing.{writeOf, turnedOf, attributeOf, midRowOf, fonOf}
 use Rattle.placing.specs.Placing.{bsOf, derOf, tabbedOf, movedOf, preambleOf}
@@ -143,7 +143,7 @@ screens =
     ∷ []
 
 films : Films screens
-unfolding isGood lowSeven digitOf hexOf judgeOf lineAt lineOf packOf unpackOf afterMidRow ofPreamble flashing afterWriteOf backOf tabOf preambleColumnOf preambleRowOf channelOf withoutChannelOf midRowOrSpecialOf tabOffsetOf preambleCodeOf channelOneCodeOf codeOf writeCellOf emptyCellOf emptyFromOf emptyRowsOf emptyAllOf exchangedOf rollOf emptyOutsideOf moveOf isReady cursorOf withCursor memoryOf writeOf turnedOf attributeOf midRowOf fonOf bsOf derOf tabbedOf movedOf preambleOf rclOf rdcOf textModeOf edmOf enmOf eocOf openedOf framedOf ruOf crOf gated actOf clearedOf typeOf asTextOf ruleOneOf ruleTwoOf controlOf ruleThreeOf ruleFourOf pairOf freshDesk displayedOf screensFrom framesOf
+unfolding isGood lowSeven digitOf hexOf judgeOf lineAt lineOf packOf unpackOf afterMidRow ofPreamble flashing afterWriteOf backOf tabOf preambleColumnOf preambleRowOf channelOf withoutChannelOf midRowOrSpecialOf tabOffsetOf preambleCodeOf channelOneCodeOf codeOf writeCellOf emptyCellOf emptyFromOf emptyRowsOf emptyAllOf exchangedOf loweredOf rollOf emptyOutsideOf moveOf isReady cursorOf withCursor memoryOf writeOf turnedOf attributeOf midRowOf fonOf bsOf derOf tabbedOf movedOf preambleOf rclOf rdcOf textModeOf edmOf enmOf eocOf openedOf framedOf ruOf crOf gated actOf clearedOf typeOf asTextOf ruleOneOf ruleTwoOf controlOf ruleThreeOf ruleFourOf pairOf freshDesk displayedOf screensFrom framesOf
 films = (refl, (refl, (refl, (refl, (refl, tt)))))
 
 register-by : (r : List ℕ) {fs : List (List ℕ)} {rs : List Run} {text : List ℕ} → framesOf r ≡ fs → runsOf fs ≡ rs → textOf rs ≡ text

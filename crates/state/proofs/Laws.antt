@@ -20,7 +20,7 @@ use Rattle.window.specs.Cells.{Kept}
 use Rattle.page.proofs.Each.{none-each}
 use Rattle.window.proofs.LawsOfCells.{kept-empty}
 use Rattle.state.specs.declared.Mode.{Mode}
-use Rattle.state.specs.State.{captions, freshCursor, freshMode}
+use Rattle.state.specs.State.{captions, freshCursor, freshMode, Fits}
 use Rattle.state.specs.Style.{isReady, cursorOf, cursors, styled, withCursor, memoryOf}
 use Rattle.state.specs.Ranges.{Styled, Ranged, Sound}
 
@@ -158,6 +158,10 @@ pub withCursor-kept : (m : Mode) (c : Cursor) (d : List ℕ) → c .row ≡ curs
 unfolding withCursor
 withCursor-kept m c d e h = subst (λ (row : Row). Each (Kept (m .mark) row (m .depth)) d) (sym (withCursor-base m c e)) h
 
+pub withCursor-fits : (m : Mode) (c : Cursor) → c .row ≡ cursorOf m .row → Fits m → Fits (withCursor m c)
+unfolding withCursor
+withCursor-fits m c e h = subst (λ (row : Row). m .mark ≡ 1 → m .depth ≤ row .0) (sym (withCursor-base m c e)) h
+
 -- The cell of a cursor in the style's row: its number, and that the style may write there.
 pub record Spot (m : Mode) (c : Cursor) : Type 0 where
   pub cell : ℕ
@@ -200,4 +204,4 @@ isReady-live m e = leb-true 1 (m .style) (and-left (leb 1 (m .style)) (eqb (m .t
 pub fresh-sound : Sound (captions freshMode (replicate 1920 0))
 fresh-sound =
     let c : Placed freshCursor = plain-placed (freshCursor .row) (omega arith) (omega arith) in
-    record { ranged = record { style = omega arith; roll = c; pop = c; paint = c }; cells = none-each kept-empty }
+    record { ranged = record { style = omega arith; roll = c; pop = c; paint = c }; fits = λ e. omega arith; cells = none-each kept-empty }

@@ -7,7 +7,7 @@ use Rattle.cell.specs.Cursor.{Placed}
 use Rattle.page.specs.Cells.{Each}
 use Rattle.window.specs.Cells.{Kept}
 use Rattle.state.specs.declared.Mode.{Mode}
-use Rattle.state.specs.State.{Captions}
+use Rattle.state.specs.State.{Captions, Fits}
 use Rattle.state.specs.Style.{rollUp, paintOn}
 
 -- "mark set requires depth 2–4 ..; roll-up style requires the mark, paint-on style that it is clear"
@@ -27,7 +27,8 @@ pub record Ranged (m : Mode) : Type 0 where
   pub pop : Placed (m .pop)
   pub paint : Placed (m .paint)
 
--- what every act asks and keeps: the mode in its ranges, and every cell allowed and, while the mark is set, in the window
+-- what every act asks and keeps: the mode in its ranges, and every cell allowed and, while the mark is set, in the window, which fits
 pub record Sound (d : Captions) : Type 0 where
   pub ranged : Ranged (d .mode)
+  pub fits : Fits (d .mode)
   pub cells : Each (Kept (d .mode .mark) (d .mode .roll .row) (d .mode .depth)) (d .cells)

@@ -1,7 +1,8 @@
--- The desk in the definitions: the state and the cells; the fresh state.
--- Paper 01, "What the codes do" (fresh, selecting) and "Record, log, tray" (the fresh record); house H1 and H4.
+-- The desk in the definitions: the state and the cells; the fresh state; a window that fits.
+-- Paper 01, "What the codes do" (fresh, selecting) and "Record, log, tray" (the fresh record); paper 02, request 4; house H1 and H4.
 -- Assumes nothing.
-use Prim.Native.Nat.{ℕ, _+_}
+use Prim.Native.Nat.{ℕ, _+_, _≤_}
+use mathlib.Core.Path.{_≡_}
 use mathlib.Core.List.{List}
 use Rattle.cell.specs.declared.Cursor.{Cursor}
 use Rattle.cell.specs.Place.{rowNumber, columnNumber}
@@ -34,6 +35,10 @@ mode style text mark depth roll pop paint = record { style = style; text = text;
 
 abbrev pub freshMode : Mode
 freshMode = mode 0 0 0 0 freshCursor freshCursor freshCursor
+
+-- request 4: "A valid record with the mark set has its base row no smaller than its depth."
+abbrev pub Fits : Mode → Type 0
+Fits m = m .mark ≡ 1 → m .depth ≤ m .roll .row .0
 
 abbrev pub state : ℕ → ℕ → ℕ → ℕ → ℕ → Mode → State
 state acts selected stream first second m = record { acts = acts; selected = selected; stream = stream; first = first; second = second; mode = m }

@@ -21,7 +21,7 @@ use Rattle.state.specs.declared.Mode.{Mode}
 use Rattle.state.specs.State.{Captions, captions}
 use Rattle.state.specs.Style.{isReady, cursorOf, withCursor, memoryOf}
 use Rattle.state.specs.Ranges.{Ranged, Sound}
-use Rattle.state.proofs.Laws.{cursorOf-placed, withCursor-ranged, withCursor-kept, spot, withCursor-own, withCursor-twice, cursorOf-withCursor, memoryOf-withCursor, isReady-withCursor}
+use Rattle.state.proofs.Laws.{cursorOf-placed, withCursor-ranged, withCursor-fits, withCursor-kept, spot, withCursor-own, withCursor-twice, cursorOf-withCursor, memoryOf-withCursor, isReady-withCursor}
 use Rattle.typing.specs.Typing.{writeOf, writeAnyOf, passedOf, putOf, turnedOf, attributeOf, midRowOf, fonOf}
 
 -- who holds mode and cells, and has set the style's cursor, has turned it
@@ -44,7 +44,7 @@ module _ (d : Captions) (h : Sound d) where
 
   pub turnedOf-sound : (to : Cursor) → Placed to → to .row ≡ cursorOf (d .mode) .row → Sound (turnedOf d to)
   unfolding turnedOf
-  turnedOf-sound to p e = record { ranged = withCursor-ranged m r to p; cells = withCursor-kept m to (d .cells) e (h .cells) }
+  turnedOf-sound to p e = record { ranged = withCursor-ranged m r to p; fits = withCursor-fits m to e (h .fits); cells = withCursor-kept m to (d .cells) e (h .cells) }
 
   pub writeOf-sound : (code : ℕ) → isCode code ≡ true → 1 ≤ code → 1 ≤ d .mode .style → Sound (writeOf d code)
   unfolding writeOf afterWriteOf
@@ -52,6 +52,7 @@ module _ (d : Captions) (h : Sound d) where
       let at = spot m c r live placed refl in
       record {
         ranged = withCursor-ranged m r (afterWriteOf c) (afterWriteOf-keeps-placed c placed);
+        fits = withCursor-fits m (afterWriteOf c) refl (h .fits);
         cells = withCursor-kept m (afterWriteOf c) _ refl
             (writeCellOf-each (memoryOf m) (c .row) (c .column) (at .cell) (at .even) code (c .pen)
             (kept-in (isCell-of code (c .pen) e low (placed .pen)) (at .inside)) (h .cells));

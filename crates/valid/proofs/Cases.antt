@@ -51,6 +51,14 @@ heads =
     ∷ ((15, 33) ∷ [], false)
     ∷ ((13, 7) ∷ [], false)
     ∷ ((16, 0x40) ∷ [], false)
+    -- base rows 3 and 2 with three rows, 4 and 3 with four, 2 and 1 with two; base row 1 with four rows, the mark clear
+    ∷ ((8, 3) ∷ [], true)
+    ∷ ((8, 2) ∷ [], false)
+    ∷ ((7, 4) ∷ (8, 4) ∷ [], true)
+    ∷ ((7, 4) ∷ (8, 3) ∷ [], false)
+    ∷ ((7, 2) ∷ (8, 2) ∷ [], true)
+    ∷ ((7, 2) ∷ (8, 1) ∷ [], false)
+    ∷ ((4, 2) ∷ (6, 0) ∷ (7, 4) ∷ (8, 1) ∷ [], true)
     -- roll-up with the mark clear; pop-on and paint-on with it set; both with it clear, depth 1 and depth 0
     ∷ ((6, 0) ∷ [], false)
     ∷ ((4, 2) ∷ [], true)
@@ -90,9 +98,9 @@ cells-judged : (isCellAt (0x80 ∷ 0x3e ∷ []) 0 0 ≡ true) × (isCellAt (0x41
 unfolding isCell isCode isPen
 cells-judged = (refl, refl, refl, refl, refl)
 
--- three rows at base row 15 are 13 to 15; four rows at base row 2 are cut off to 1 and 2
+-- three rows at base row 15 are 13 to 15; four rows at base row 4 are 1 to 4
 windows-judged : (isInWindow (rowNumber 15) 3 12 ≡ false) × (isInWindow (rowNumber 15) 3 13 ≡ true)
-    × (isInWindow (rowNumber 2) 4 1 ≡ true) × (isInWindow (rowNumber 2) 4 3 ≡ false)
+    × (isInWindow (rowNumber 4) 4 1 ≡ true) × (isInWindow (rowNumber 4) 4 5 ≡ false)
 windows-judged = (refl, refl, refl, refl)
 
 -- a row with 20h, 7Fh, 80h and 99h in it counts 4, and not 3 or 5; an empty row counts 0, and not 1

@@ -18,7 +18,7 @@ use Rattle.cell.specs.Cursor.{Placed}
 use Rattle.codes.specs.Assigned.{isExpected}
 use Rattle.window.specs.Window.{aboveOf}
 use Rattle.state.specs.declared.State.{State}
-use Rattle.state.specs.State.{Desk}
+use Rattle.state.specs.State.{Desk, Fits}
 use Rattle.state.specs.Ranges.{Ranged}
 use Rattle.decode.specs.Sound.{SoundDesk}
 use Rattle.record.specs.Layout.{stateOf, areCounted}
@@ -75,6 +75,7 @@ clauses s =
     isWithin 1 2 (s .selected) ∷ leb (s .stream) 2 ∷ leb (s .mode .style) 3 ∷ leb (s .mode .text) 1 ∷ leb (s .mode .mark) 1
     ∷ (eqb (s .mode .depth) 0 || isWithin 2 4 (s .mode .depth)) ∷ isCursor (s .mode .roll) ∷ isCursor (s .mode .pop) ∷ isCursor (s .mode .paint)
     ∷ isExpected (s .first) (s .second) ∷ implies (eqb (s .mode .mark) 1) (isWithin 2 4 (s .mode .depth))
+    ∷ implies (eqb (s .mode .mark) 1) (leb (s .mode .depth) (s .mode .roll .row .0))
     ∷ implies (eqb (s .mode .style) 1) (eqb (s .mode .mark) 1) ∷ implies (eqb (s .mode .style) 3) (eqb (s .mode .mark) 0) ∷ []
 
 module _ (s : State) (e : isValidState s ≡ true) where
@@ -96,14 +97,17 @@ module _ (s : State) (e : isValidState s ≡ true) where
       mark-high = leb-true (s .mode .mark) 1 (isValidState-clause 5);
       depth-high = depth-cases .0;
       depth-two = depth-cases .1;
-      rolls = λ h. eqb-true (s .mode .mark) 1 (implies-at _ _ (isValidState-clause 12) (eq-eqb (s .mode .style) 1 h));
-      paints = λ h. eqb-true (s .mode .mark) 0 (implies-at _ _ (isValidState-clause 13) (eq-eqb (s .mode .style) 3 h));
+      rolls = λ h. eqb-true (s .mode .mark) 1 (implies-at _ _ (isValidState-clause 13) (eq-eqb (s .mode .style) 1 h));
+      paints = λ h. eqb-true (s .mode .mark) 0 (implies-at _ _ (isValidState-clause 14) (eq-eqb (s .mode .style) 3 h));
       deep = λ h. within-low 2 4 (s .mode .depth) (implies-at _ _ (isValidState-clause 11) (eq-eqb (s .mode .mark) 1 h));
     };
     roll = isCursor-facts (s .mode .roll) (isValidState-clause 7);
     pop = isCursor-facts (s .mode .pop) (isValidState-clause 8);
     paint = isCursor-facts (s .mode .paint) (isValidState-clause 9);
   }
+
+  pub isValidState-fits : Fits (s .mode)
+  isValidState-fits h = leb-true _ _ (implies-at _ _ (isValidState-clause 12) (eq-eqb (s .mode .mark) 1 h))
 
 -- a depth of 0 or 2 to 4
 depth-of : (depth : ℕ) → depth ≤ 4 → (1 ≤ depth → 2 ≤ depth) → (eqb depth 0 || isWithin 2 4 depth) ≡ true
@@ -123,6 +127,7 @@ isValidState-of d h =
     && isCursor-of (m .roll) (r .roll) i && isCursor-of (m .pop) (r .pop) i && isCursor-of (m .paint) (r .paint) i
     && h .expected i
     && implies-of (eqb (m .mark) 1) (λ k. and-both (le-leb 2 (m .depth) (t .deep (eqb-true (m .mark) 1 k))) (le-leb (m .depth) 4 (t .depth-high))) i
+    && implies-of (eqb (m .mark) 1) (λ k. le-leb (m .depth) (m .roll .row .0) (h .captions .fits (eqb-true (m .mark) 1 k))) i
     && implies-of (eqb (m .style) 1) (λ k. eq-eqb (m .mark) 1 (t .rolls (eqb-true (m .style) 1 k))) i
     && implies-of (eqb (m .style) 3) (λ k. eq-eqb (m .mark) 0 (t .paints (eqb-true (m .style) 3 k))) i
 

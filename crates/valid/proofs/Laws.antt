@@ -15,13 +15,13 @@ use Rattle.page.specs.Page.{displayed, filledFrom, countRowOf}
 use Rattle.page.specs.Cells.{Each}
 use Rattle.page.proofs.LawsOfCounts.{filledFrom-drop}
 use Rattle.window.specs.Cells.{Kept}
-use Rattle.state.specs.State.{Desk}
+use Rattle.state.specs.State.{Desk, Fits}
 use Rattle.decode.specs.Sound.{SoundDesk}
 use Rattle.record.specs.Layout.{stateOf, recordOf, readOf, areCounted, Counted, countAt, codeAt, penAt}
 use Rattle.record.proofs.Laws.{length-recordOf, readOf-recordOf, recordOf-counted, areCounted-recordOf, zeros-recordOf}
 use Rattle.record.proofs.LawsOfCounts.{areCounted-at}
 use Rattle.valid.specs.Valid.{isValid}
-use Rattle.valid.proofs.Clauses.{Clauses, isValid-clauses, clauses-isValid, isValidState-clause, isValidState-ranged, isValidState-of, within-low, within-high, windowed-facts, windowed-of}
+use Rattle.valid.proofs.Clauses.{Clauses, isValid-clauses, clauses-isValid, isValidState-clause, isValidState-ranged, isValidState-fits, isValidState-of, within-low, within-high, windowed-facts, windowed-of}
 
 pub isValid-length : (bs : List ℕ) → isValid bs ≡ true → length bs ≡ 1984
 isValid-length bs e = isValid-clauses bs e .size
@@ -65,7 +65,7 @@ isValid-sound bs e =
       selected-high = within-high 1 2 (s .selected) (part 1);
       stream = leb-true (s .stream) 2 (part 2);
       expected = part 10;
-      captions = record { ranged = isValidState-ranged s (c .state); cells = cells-kept bs c };
+      captions = record { ranged = isValidState-ranged s (c .state); fits = isValidState-fits s (c .state); cells = cells-kept bs c };
     }
 
 -- and back
@@ -97,6 +97,12 @@ pub miscounted-isValid : (bs : List ℕ) (k : ℕ) → k < 30 → (Counted bs k 
 miscounted-isValid bs k h wrong =
     same-test (isValid bs) false
     (λ e. absurd (wrong (areCounted-at bs (isValid-length bs e) (isValid-counted bs e) k h))) (λ e. absurd (false≢true e))
+
+pub isValid-fits : (bs : List ℕ) → isValid bs ≡ true → Fits (stateOf bs .mode)
+isValid-fits bs e = isValidState-fits (stateOf bs) (isValid-clauses bs e .state)
+
+pub misfit-isValid : (bs : List ℕ) → (Fits (stateOf bs .mode) → ⊥) → isValid bs ≡ false
+misfit-isValid bs wrong = same-test (isValid bs) false (λ e. absurd (wrong (isValid-fits bs e))) (λ e. absurd (false≢true e))
 
 pub isValid-count : (bs : List ℕ) (row : Row) → isValid bs ≡ true → 1 ≤ row .0 → row .0 ≤ 15 → countAt bs row ≡ countRowOf (drop 64 bs) displayed row
 unfolding countRowOf

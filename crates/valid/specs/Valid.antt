@@ -1,5 +1,5 @@
 -- Which records are valid: the paper's sentence, a line for each clause.
--- Paper 01, "Record, log, tray": the line "Valid", with the ranges of the first paragraph; paper 02, request 2; docs/DECISIONS.md, "Cursors" and "Validity".
+-- Paper 01, "Record, log, tray": the line "Valid", with the ranges of the first paragraph; paper 02, requests 2 and 4; docs/DECISIONS.md, "Cursors" and "Validity".
 -- Assumes nothing.
 use Prim.Native.Nat.{ℕ, _+_, _/_}
 use mathlib.Core.Bool.{Bool, _&&_, _||_}
@@ -48,6 +48,8 @@ isValidState s =
     && isExpected (s .first) (s .second)
     -- "mark set requires depth 2–4"
     && implies (eqb (s .mode .mark) 1) (isWithin 2 4 (s .mode .depth))
+    -- request 4: "A valid record with the mark set has its base row no smaller than its depth."
+    && implies (eqb (s .mode .mark) 1) (leb (s .mode .depth) (s .mode .roll .row .0))
     -- "roll-up style requires the mark, paint-on style that it is clear"
     && implies (eqb (s .mode .style) rollUp) (eqb (s .mode .mark) 1)
     && implies (eqb (s .mode .style) paintOn) (eqb (s .mode .mark) 0)

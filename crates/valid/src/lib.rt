@@ -36,6 +36,7 @@ fn is_valid_state(state: State) -> bool
         & is_cursor(mode.paint)
         & codes::is_expected(state.first, state.second)
         & ((mode.mark != 1) | deep)
+        & ((mode.mark != 1) | (mode.depth <= mode.roll.row.0))
         & ((mode.style != state::ROLL_UP) | (mode.mark == 1))
         & ((mode.style != state::PAINT_ON) | (mode.mark == 0))
 }
@@ -84,7 +85,7 @@ fn are_rows(bytes: &[u8]) -> bool
 
 // While the mark is set, the displayed rows above the window and those below it are all 0.
 fn is_framed(bytes: &[u8], mark: u8, base: Row, depth: u8) -> bool
-    requires { ⌜ (length (now bytes) ≡ 1984) × (base .0 ≤ 15) ⌝ }
+    requires { ⌜ (length (now bytes) ≡ 1984) × (base .0 ≤ 15) × (mark ≡ 1 → depth ≤ base .0) ⌝ }
     ensures { λ r. ⌜ r ≡ isFramed (now (bytes .entry)) mark base depth ⌝ }
 {
     if mark == 1 {

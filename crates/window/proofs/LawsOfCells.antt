@@ -12,7 +12,7 @@ use Rattle.cell.specs.declared.Row.{Row}
 use Rattle.cell.specs.Code.{isCell}
 use Rattle.cell.proofs.Laws.{empty-isCell, isCell-empty}
 use Rattle.page.specs.Page.{emptyRowsOf, emptyAllOf}
-use Rattle.window.specs.Window.{aboveOf, rollOf, emptyOutsideOf, sharedOf, moveOf}
+use Rattle.window.specs.Window.{aboveOf, rollOf, emptyOutsideOf, moveOf}
 use Rattle.page.specs.Cells.{Each, Allowed}
 use Rattle.window.specs.Cells.{Kept}
 use Rattle.page.proofs.Laws.{Outside, over-own, length-emptyAllOf, emptyAllOf-outside}
@@ -57,18 +57,16 @@ emptyOutsideOf-kept base depth high h =
     (wipe-out {Q = Allowed} (0 + 0 * 64) (up * 64) 0 (up * 32) (omega arith) (omega arith) (λ k. (empty-isCell, λ t. refl))
     (λ k c p t e. (e, λ u. omega arith)) (λ k c p b t e. (e, λ u. omega arith)) h)
 
--- n rows of the window go from one base row to another
-moved-kept : {mark : ℕ} {d : List ℕ} (old new : Row) (depth n : ℕ) → n ≤ old .0 → n ≤ new .0 → n ≤ depth → old .0 ≤ 15 → new .0 ≤ 15 → Each Allowed d
-    → Each (Kept mark new depth) (over (emptyAllOf d 0) (0 + (new .0 - n) * 64) (part d (0 + (old .0 - n) * 64) (n * 64)))
-unfolding emptyAllOf
-moved-kept old new depth n a b deep from to h =
-    copy-each {R = Allowed} (0 + (new .0 - n) * 64) (0 + (old .0 - n) * 64) (n * 64) ((new .0 - n) * 32) ((old .0 - n) * 32) (n * 32)
+-- the window goes from one base row to another and fits at both
+pub moveOf-kept : {mark : ℕ} {d : List ℕ} (old new : Row) (depth : ℕ) → depth ≤ old .0 → old .0 ≤ 15 → depth ≤ new .0 → new .0 ≤ 15 → Each Allowed d
+    → Each (Kept mark new depth) (moveOf d 0 old new depth)
+unfolding moveOf emptyAllOf
+moveOf-kept old new depth from-fits from-high to-fits to-high h =
+    let from = aboveOf old depth in
+    let to = aboveOf new depth in
+    copy-each {R = Allowed} (0 + to * 64) (0 + from * 64) (depth * 64) (to * 32) (from * 32) (depth * 32)
     (omega arith) (omega arith) (omega arith) (omega arith) (λ j c p t e. kept-in e (λ m. omega arith)) h
     (wipe-out {Q = Allowed} 0 960 0 480 refl refl kept-empty (λ k c p t e. kept-in e (λ m. omega arith)) (λ k c p b t e. kept-in e (λ m. omega arith)) h)
-
-pub moveOf-kept : {mark : ℕ} {d : List ℕ} (old new : Row) (depth : ℕ) → old .0 ≤ 15 → new .0 ≤ 15 → Each Allowed d → Each (Kept mark new depth) (moveOf d 0 old new depth)
-unfolding moveOf
-moveOf-kept old new depth from to h = moved-kept old new depth (sharedOf old new depth) (omega arith) (omega arith) (omega arith) from to h
 
 -- both bytes of an empty cell are 0
 cell-none : (d : List ℕ) (k : ℕ) → isCell (getD d (k / 2 * 2) 0) (getD d (k / 2 * 2 + 1) 0) ≡ true → getD d (k / 2 * 2) 0 ≡ 0 → getD d k 0 ≡ 0
@@ -82,23 +80,23 @@ cell-none d k e none =
     ap (λ (i : ℕ). getD d i 0) pen ∙ isCell-empty (getD d (k / 2 * 2 + 1) 0) (rw none at e))
 
 -- with the mark set, every displayed byte outside the window is 0
-kept-none : {mark : ℕ} {base : Row} {depth : ℕ} {d : List ℕ} (k : ℕ) → mark ≡ 1 → Each (Kept mark base depth) d → k < 960
+pub kept-none : {mark : ℕ} {base : Row} {depth : ℕ} {d : List ℕ} (k : ℕ) → mark ≡ 1 → Each (Kept mark base depth) d → k < 960
     → Outside (aboveOf base depth * 64) ((base .0 - aboveOf base depth) * 64) k → getD d k 0 ≡ 0
 kept-none {base = base} {depth = depth} {d = d} k set h shown out =
     let cell = h .at (k / 2) (omega arith) in
     cell-none d k (cell .allowed) (⊎-elim (λ low. cell .above set (omega arith)) (λ high. cell .below set (omega arith) (omega arith)) out)
 
--- A preamble on the same base row moves nothing: with the mark set the window stays, and outside it there is nothing to empty
-pub moveOf-same : {mark : ℕ} {d : List ℕ} (old new : Row) (depth : ℕ) → old .0 ≡ new .0 → old .0 ≤ 15 → mark ≡ 1 → Each (Kept mark old depth) d
+-- A move to the same base row changes nothing: with the mark set the window stays, and outside it there is nothing to empty
+pub moveOf-same : {mark : ℕ} {d : List ℕ} (old new : Row) (depth : ℕ) → old .0 ≡ new .0 → depth ≤ old .0 → old .0 ≤ 15 → mark ≡ 1 → Each (Kept mark old depth) d
     → moveOf d 0 old new depth ≡ d
 unfolding moveOf emptyAllOf
-moveOf-same {d = d} old new depth e high set h =
-    let n = sharedOf old new depth in
+moveOf-same {d = d} old new depth e fits high set h =
     let size = h .size in
-    let place : 0 + (new .0 - n) * 64 ≡ aboveOf old depth * 64 = omega arith in
-    let source : 0 + (old .0 - n) * 64 ≡ aboveOf old depth * 64 = omega arith in
-    let span : n * 64 ≡ (old .0 - aboveOf old depth) * 64 = omega arith in
-    (λ i. over (emptyAllOf d 0) (place i) (part d (source i) (span i)))
-    ∙ over-own (emptyAllOf d 0) d (aboveOf old depth * 64) ((old .0 - aboveOf old depth) * 64) (length-emptyAllOf d 0) (omega arith)
-    (λ k b out. below-cases k 960 (λ shown. wiped d 0 960 k (omega arith) (omega arith) (omega arith) ∙ sym (kept-none k set h shown out))
+    let place : 0 + aboveOf new depth * 64 ≡ aboveOf old depth * 64 = omega arith in
+    let source : 0 + aboveOf old depth * 64 ≡ aboveOf old depth * 64 = omega arith in
+    let span : old .0 - aboveOf old depth ≡ depth = omega arith in
+    (λ i. over (emptyAllOf d 0) (place i) (part d (source i) (depth * 64)))
+    ∙ over-own (emptyAllOf d 0) d (aboveOf old depth * 64) (depth * 64) (length-emptyAllOf d 0) (omega arith)
+    (λ k b out. below-cases k 960
+    (λ shown. wiped d 0 960 k (omega arith) (omega arith) (omega arith) ∙ sym (kept-none k set h shown (rw span out)))
     (λ other. emptyAllOf-outside d 0 k (inr (omega arith))))

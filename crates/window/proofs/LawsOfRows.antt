@@ -1,17 +1,45 @@
--- What the window's operations do row by row, as the paper says it: a roll, a cut and a move. Assumes nothing.
+-- What the window's operations do row by row, as the papers say it: a base row lowered, a roll, a cut and a move. Assumes nothing.
 use mathlib.Core.Path.{_≡_, sym, ap, _∙_}
 use mathlib.Core.Logic.{inl, inr}
 use mathlib.Core.List.{List}
-use Prim.Native.Nat.{ℕ, _+_, _-_, _*_, _<_, _≤_}
+use Prim.Native.Nat.{ℕ, _+_, _-_, _*_, _<_, _≤_, max}
 use native.Mathlib.Nat.{lt-of-lt-of-le}
 use native.Mathlib.Omega.{arith}
 use lib.ListN.{length, getD, replicate, length-replicate, getD-replicate}
 use Rattle.facts.specs.Over.{over, part}
 use Rattle.facts.proofs.Over.{length-over, in-over, length-part, part-at}
 use Rattle.cell.specs.declared.Row.{Row}
+use Rattle.cell.specs.declared.Cursor.{Cursor}
+use Rattle.cell.specs.Place.{rowNumber}
+use Rattle.cell.specs.Cursor.{Placed, cursor}
 use Rattle.page.specs.Page.{Holds, emptyRowsOf, emptyAllOf}
-use Rattle.window.specs.Window.{aboveOf, rollOf, emptyOutsideOf, sharedOf, moveOf}
+use Rattle.window.specs.Window.{aboveOf, loweredOf, rollOf, emptyOutsideOf, moveOf}
 use Rattle.page.proofs.Laws.{Outside, over-outside, outside-part, emptyRowsOf-outside, emptyAllOf-outside, length-emptyAllOf, length-emptyRowsOf}
+
+-- A base row lowered: the window fits there, it does not go up, and one that fits stays.
+
+pub loweredOf-fits : (c : Cursor) (depth : ℕ) → depth ≤ loweredOf c depth .row .0
+unfolding loweredOf
+loweredOf-fits c depth = omega arith
+
+pub loweredOf-not-up : (c : Cursor) (depth : ℕ) → c .row .0 ≤ loweredOf c depth .row .0
+unfolding loweredOf
+loweredOf-not-up c depth = omega arith
+
+pub loweredOf-stays : (c : Cursor) (depth : ℕ) → depth ≤ c .row .0 → loweredOf c depth ≡ c
+unfolding loweredOf
+loweredOf-stays c depth fits =
+    let e : max (c .row .0) depth ≡ c .row .0 = omega arith in
+    ap (λ (n : ℕ). cursor (rowNumber n) (c .column) (c .pen)) e
+
+pub loweredOf-placed : (c : Cursor) (depth : ℕ) → depth ≤ 15 → Placed c → Placed (loweredOf c depth)
+unfolding loweredOf
+loweredOf-placed c depth high h =
+    let at = h .place in
+    record {
+      place = record { row-low = omega arith; row-high = omega arith; column-low = at .column-low; column-high = at .column-high };
+      pen = h .pen;
+    }
 
 -- byte k is the one at distance j from place `at`
 at-distance : (d : List ℕ) (at k j : ℕ) → k ≡ at + j → getD d k 0 ≡ getD d (at + j) 0
@@ -110,45 +138,42 @@ module _ (d : List ℕ) (memory : ℕ) (h : Holds memory d) where
         emptyRowsOf-outside cut memory (base .0) (15 - base .0) k (outside-part memory 960 (memory + base .0 * 64) ((15 - base .0) * 64) k (omega arith) (omega arith) out)
         ∙ emptyRowsOf-outside d memory 0 (aboveOf base depth) k (outside-part memory 960 (memory + 0 * 64) (aboveOf base depth * 64) k (omega arith) (omega arith) out)
 
-  -- "rows keeping their distance from it; what falls above row 1 is lost, all else is empty"
-  module _ (old new : Row) (depth : ℕ) (from-high : old .0 ≤ 15) (to-high : new .0 ≤ 15) where
-    abbrev shared : ℕ
-    shared = sharedOf old new depth
-
+  -- "rows keeping their distance from it; .. all else is empty"
+  module _ (old new : Row) (depth : ℕ) (from-fits : depth ≤ old .0) (from-high : old .0 ≤ 15) (to-fits : depth ≤ new .0) (to-high : new .0 ≤ 15) where
     abbrev from : ℕ
-    from = memory + (old .0 - shared) * 64
+    from = memory + aboveOf old depth * 64
 
     abbrev to : ℕ
-    to = memory + (new .0 - shared) * 64
+    to = memory + aboveOf new depth * 64
 
-    moved-size : length (part d from (shared * 64)) ≡ shared * 64
+    moved-size : length (part d from (depth * 64)) ≡ depth * 64
     moved-size =
         let whole = h .whole in
-        length-part d from (shared * 64) (omega arith)
+        length-part d from (depth * 64) (omega arith)
 
-    -- the row at distance i above the base row
-    pub moveOf-keeps-distance : (i j : ℕ) → i < shared → j < 64
+    -- request 4: "No row is lost then." Byte j of the row at distance i above the base row, for every row of the window
+    pub moveOf-loses-no-row : (i j : ℕ) → i < depth → j < 64
         → getD (moveOf d memory old new depth) (memory + (new .0 - 1 - i) * 64 + j) 0 ≡ getD d (memory + (old .0 - 1 - i) * 64 + j) 0
     unfolding moveOf
-    moveOf-keeps-distance i j near small =
-        let k = (shared - 1 - i) * 64 + j in
-        let inside = in-window shared i j near small in
-        let room = in-memory memory (new .0) shared k to-high (omega arith) inside in
+    moveOf-loses-no-row i j near small =
+        let k = (depth - 1 - i) * 64 + j in
+        let inside = in-window depth i j near small in
+        let room = in-memory memory (new .0) depth k to-high to-fits inside in
         let whole = lt-of-lt-of-le room (h .whole) in
-        at-distance (over (emptyAllOf d memory) to (part d from (shared * 64))) to (memory + (new .0 - 1 - i) * 64 + j) k
-        (from-first memory (new .0) shared i j (omega arith) near)
-        ∙ in-over (emptyAllOf d memory) to (part d from (shared * 64)) k (rw (length-emptyAllOf d memory) whole) (rw moved-size inside)
-        ∙ part-at d from (shared * 64) k inside
-        ∙ ap (λ (n : ℕ). getD d n 0) (sym (from-first memory (old .0) shared i j (omega arith) near))
+        at-distance (over (emptyAllOf d memory) to (part d from (depth * 64))) to (memory + (new .0 - 1 - i) * 64 + j) k
+        (from-first memory (new .0) depth i j to-fits near)
+        ∙ in-over (emptyAllOf d memory) to (part d from (depth * 64)) k (rw (length-emptyAllOf d memory) whole) (rw moved-size inside)
+        ∙ part-at d from (depth * 64) k inside
+        ∙ ap (λ (n : ℕ). getD d n 0) (sym (from-first memory (old .0) depth i j from-fits near))
 
-    pub moveOf-empties-rest : (k : ℕ) → memory ≤ k → k < memory + 960 → Outside to (shared * 64) k → getD (moveOf d memory old new depth) k 0 ≡ 0
+    pub moveOf-empties-rest : (k : ℕ) → memory ≤ k → k < memory + 960 → Outside to (depth * 64) k → getD (moveOf d memory old new depth) k 0 ≡ 0
     unfolding moveOf emptyAllOf
     moveOf-empties-rest k low high out =
-        over-outside (emptyAllOf d memory) to (shared * 64) (part d from (shared * 64)) k moved-size out
+        over-outside (emptyAllOf d memory) to (depth * 64) (part d from (depth * 64)) k moved-size out
         ∙ wiped d memory 960 k (h .whole) low high
 
     pub moveOf-outside : (k : ℕ) → Outside memory 960 k → getD (moveOf d memory old new depth) k 0 ≡ getD d k 0
     unfolding moveOf
     moveOf-outside k out =
-        over-outside (emptyAllOf d memory) to (shared * 64) (part d from (shared * 64)) k moved-size (outside-part memory 960 to (shared * 64) k (omega arith) (omega arith) out)
+        over-outside (emptyAllOf d memory) to (depth * 64) (part d from (depth * 64)) k moved-size (outside-part memory 960 to (depth * 64) k (omega arith) (omega arith) out)
         ∙ emptyAllOf-outside d memory k out

@@ -1,20 +1,35 @@
 // The roll-up window of a memory inside the lent cells: how it rolls, moves and is cut out.
+use cell::Cursor;
 use cell::Row;
 ghost use mathlib.Core.Path.{_≡_};
 ghost use Prim.Native.Nat.{_≤_};
 ghost use Rattle.page.specs.Page.{Holds};
-ghost use Rattle.window.specs.Window.{aboveOf, rollOf, emptyOutsideOf, moveOf};
+ghost use Rattle.window.specs.Window.{aboveOf, loweredOf, rollOf, emptyOutsideOf, moveOf};
 
-// How many rows lie above the window of a base row and a depth.
+// How many rows lie above the window of a base row and a depth that fits there.
 pub fn rows_above(base: Row, depth: u8) -> usize
-    ensures { λ r. ⌜ (r ≡ aboveOf base depth) × (r ≤ base .0) ⌝ }
+    requires { ⌜ depth ≤ base .0 ⌝ }
+    ensures { λ r. ⌜ r ≡ aboveOf base depth ⌝ }
 {
-    (base.0 - facts::least(base.0, depth)) as usize
+    (base.0 - depth) as usize
+}
+
+// A base row where a window of this depth does not fit is lowered to the row equal to the depth; column and pen stay.
+pub fn lowered(mut cursor: Cursor, depth: u8) -> Cursor
+    ensures { λ r. ⌜ r ≡ loweredOf cursor depth ⌝ }
+{
+    let base = cursor.row.0;
+    if base < depth {
+        let lower = Row(depth);
+        cursor.row = lower;
+        return cursor;
+    }
+    cursor
 }
 
 // Each row of the window takes the row below; the base row is emptied.
 pub fn roll(cells: &mut [u8], memory: usize, base: Row, depth: u8)
-    requires { ⌜ Holds memory (now cells) × (1 ≤ base .0) × (base .0 ≤ 15) × (1 ≤ depth) ⌝ }
+    requires { ⌜ Holds memory (now cells) × (base .0 ≤ 15) × (1 ≤ depth) × (depth ≤ base .0) ⌝ }
     ensures { λ r. ⌜ now (cells .exit) ≡ rollOf (now (cells .entry)) memory base depth ⌝ }
 {
     let above = rows_above(base, depth);
@@ -26,7 +41,7 @@ pub fn roll(cells: &mut [u8], memory: usize, base: Row, depth: u8)
 
 // The rows above and below the window are emptied.
 pub fn empty_outside(cells: &mut [u8], memory: usize, base: Row, depth: u8)
-    requires { ⌜ Holds memory (now cells) × (base .0 ≤ 15) ⌝ }
+    requires { ⌜ Holds memory (now cells) × (base .0 ≤ 15) × (depth ≤ base .0) ⌝ }
     ensures { λ r. ⌜ now (cells .exit) ≡ emptyOutsideOf (now (cells .entry)) memory base depth ⌝ }
 {
     let above = rows_above(base, depth);
@@ -35,13 +50,12 @@ pub fn empty_outside(cells: &mut [u8], memory: usize, base: Row, depth: u8)
     page::empty_rows(cells, memory, below, 15 - below);
 }
 
-// The window goes from one base row to another, rows keeping their distance from it; all else of the memory is emptied.
+// The window goes from one base row to another and fits at both: rows keep their distance from it, all else of the memory is emptied.
 pub fn move_window(cells: &mut [u8], memory: usize, old: Row, new: Row, depth: u8)
-    requires { ⌜ Holds memory (now cells) × (old .0 ≤ 15) × (new .0 ≤ 15) × (depth ≤ 4) ⌝ }
+    requires { ⌜ Holds memory (now cells) × (depth ≤ old .0) × (old .0 ≤ 15) × (depth ≤ new .0) × (new .0 ≤ 15) × (depth ≤ 4) ⌝ }
     ensures { λ r. ⌜ now (cells .exit) ≡ moveOf (now (cells .entry)) memory old new depth ⌝ }
 {
-    let n = facts::least(facts::least(old.0, new.0), depth);
-    let from = memory + ((old.0 - n) as usize) * 64;
-    let to = memory + ((new.0 - n) as usize) * 64;
-    facts::carry(cells, memory, 960, from, to, (n as usize) * 64);
+    let from = memory + rows_above(old, depth) * 64;
+    let to = memory + rows_above(new, depth) * 64;
+    facts::carry(cells, memory, 960, from, to, (depth as usize) * 64);
 }

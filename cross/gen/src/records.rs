@@ -43,6 +43,9 @@ pub fn odd_record(seed: u64, acts: u16) -> Vec<u8> {
         record[cursor + 1] = column(&mut prng);
         record[cursor + 2] = pen(&mut prng);
     }
+    if marked {
+        record[8] = record[8].max(record[7]);
+    }
     let (a, b) = expected(&mut prng);
     record[17] = a;
     record[18] = b;

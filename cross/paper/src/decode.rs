@@ -355,27 +355,40 @@ impl Decoder {
 
     /// "RU n: empties the non-displayed memory. Mark clear: empties the
     /// displayed memory too, base row 15, column 1, plain pen, mark set. Mark
-    /// set: base row, cursor and pen stay … Then depth n, style roll-up,
-    /// displayed rows outside the window emptied."
+    /// set: base row, cursor and pen stay", but "a base row above the depth's
+    /// fit is lowered … when RU makes the window deeper". "Then depth n, style
+    /// roll-up, displayed rows outside the window emptied."
     fn roll_up(&mut self, depth: u8) {
         *self.hidden_mut() = EMPTY_GRID;
-        self.depth = depth;
         self.resume(Style::RollUp);
         if self.mark {
-            let window = self.window();
-            self.keep_only(window);
+            self.move_window(self.base_row(), depth);
+            self.depth = depth;
+            self.keep_only(self.window());
         } else {
             *self.displayed_mut() = EMPTY_GRID;
             self.cursors[Style::RollUp.index()] = Cursor::FRESH;
+            self.depth = depth;
             self.mark = true;
         }
     }
 
-    /// "The window is the base row and the n − 1 rows above it; rows above row
-    /// 1 do not exist and are cut off": the indexes of its rows.
+    /// "roll-up's row is the base row."
+    fn base_row(&self) -> u8 {
+        self.cursors[Style::RollUp.index()].row
+    }
+
+    /// "A valid record with the mark set has its base row no smaller than its
+    /// depth": whether it has.
+    pub(crate) fn window_fits(&self) -> bool {
+        self.base_row() >= self.depth
+    }
+
+    /// "The window is the base row and the n − 1 rows above it": the indexes of
+    /// its rows, where it fits.
     fn window(&self) -> Range<usize> {
-        let base = usize::from(self.cursors[Style::RollUp.index()].row);
-        base.saturating_sub(usize::from(self.depth))..base
+        let base = usize::from(self.base_row());
+        base - usize::from(self.depth)..base
     }
 
     /// "While the mark is set, non-empty displayed cells lie in the window,
@@ -398,28 +411,28 @@ impl Decoder {
     /// roll-up "the window moves to the new base row".
     fn preamble(&mut self, style: Style, set: Preamble) {
         if style == Style::RollUp {
-            self.move_window(set.row);
+            self.move_window(set.row, self.depth);
+        } else {
+            self.cursors[style.index()].row = set.row;
         }
-        self.cursors[style.index()] = Cursor {
-            row: set.row,
-            column: set.column,
-            pen: set.pen,
-        };
+        let cursor = &mut self.cursors[style.index()];
+        cursor.column = set.column;
+        cursor.pen = set.pen;
     }
 
-    /// "Preamble in roll-up: the window moves to the new base row, rows keeping
-    /// their distance from it; what falls above row 1 is lost, all else is
-    /// empty."
-    fn move_window(&mut self, base: u8) {
+    /// "the window moves to the new base row, rows keeping their distance from
+    /// it …, all else is empty", but "a base row above the depth's fit is
+    /// lowered to the row equal to the depth …, and the whole window moves with
+    /// it. No row is lost then." What moves has the depth of before: "Then
+    /// depth n".
+    fn move_window(&mut self, base: u8, depth: u8) {
         let from = self.window();
-        let end = usize::from(base);
-        if from.end == end {
-            return;
+        self.cursors[Style::RollUp.index()].row = base.max(depth);
+        let to = self.window();
+        if from != to {
+            self.displayed_mut().copy_within(from, to.start);
+            self.keep_only(to);
         }
-        let rows = from.len().min(end);
-        self.displayed_mut()
-            .copy_within(from.end - rows..from.end, end - rows);
-        self.keep_only(end - rows..end);
     }
 
     /// "The pen changes, then an attribute space (cell code 80h) is written

@@ -147,22 +147,18 @@ fn carriage_return_rolls_within_the_window_and_sets_column_and_pen() {
 
 #[test]
 fn the_window_goes_to_every_row_and_back() {
-    let rows = [
-        "9140", "91E0", "9240", "92E0", "1540", "15E0", "1640", "16E0", "9740", "97E0", "1040",
-        "1340", "13E0", "9440", "94E0",
-    ];
-    for (base, code) in (1..).zip(rows) {
-        let mut desk = Desk::after(&format!("9426 C180 94AD C280 94AD 4380 {code}"));
-        let mut rows = Vec::new();
-        for (above, text) in [(2, "41"), (1, "42"), (0, "43")] {
-            if base > above {
-                rows.push(format!("{}@1 {text}", base - above));
-            }
-        }
-        assert_eq!(desk.displayed(), rows.join("; "), "{code}");
+    let shown = |base: usize| format!("{}@1 41; {}@1 42; {base}@1 43", base - 2, base - 1);
+    for (row, code) in (1..).zip(PREAMBLES) {
+        let mut desk = Desk::after("9426 C180 94AD C280 94AD 4380");
+        let base = row.max(3);
+        desk.feed(code);
+        assert_eq!(desk.displayed(), shown(base), "{code}");
         assert_eq!(desk.cursor(ROLL_UP), [base as u8, 1, 0]);
-        desk.feed("94AD");
-        assert_eq!(desk.desk[ROLL_UP], base as u8);
+        let mut returned = desk.clone();
+        returned.feed("94AD");
+        assert_eq!(returned.desk[ROLL_UP], base as u8);
+        desk.feed("8080 94E0");
+        assert_eq!(desk.displayed(), shown(15), "{code}");
     }
 }
 

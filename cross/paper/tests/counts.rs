@@ -7,13 +7,6 @@ use gen::prng::Prng;
 use gen::records::odd_record;
 use gen::traffic::structured;
 use paper::desk;
-use paper::numbers::Answer;
-
-/// The preambles of rows 1 to 15, in column 1 and with a plain pen.
-const PREAMBLES: [&str; 15] = [
-    "9140", "91E0", "9240", "92E0", "1540", "15E0", "1640", "16E0", "9740", "97E0", "1040", "1340",
-    "13E0", "9440", "94E0",
-];
 
 /// The bytes at the ends of both lists: rows 1 and 15 of the displayed memory,
 /// and of the other.
@@ -44,26 +37,6 @@ fn lettered() -> Desk {
     let desk = Desk::after("9420 9140 C1C2 94E0 C1C2 4380 942F 9140 C1C2 43C4 94E0 C1C2 43C4 4580");
     assert_eq!(counts(&desk), ("1:2 15:3".into(), "1:4 15:5".into()));
     desk
-}
-
-/// Every call that is lent a record, but opening, which looks at none.
-fn refused_by_all(desk: &mut Desk) {
-    let calls: [fn(&mut Desk) -> Answer; 7] = [
-        |desk| desk.take(0x80, 0x80),
-        |desk| desk.select(1),
-        |desk| desk.select(3),
-        |desk| desk.back(0),
-        |desk| desk.back(60_000),
-        |desk| desk.row(1),
-        |desk| desk.row(16),
-    ];
-    for call in calls {
-        desk.refuses(INVALID, call);
-    }
-    let mut out = [0xA5; 960];
-    desk.refuses(INVALID, |desk| desk::view_into(&desk.desk, &mut out));
-    assert_eq!(out, [0xA5; 960]);
-    assert_eq!(desk::view(&desk.desk).err(), INVALID.err());
 }
 
 /// What no count may be where this one is right: one more, one less, the
@@ -152,7 +125,8 @@ fn carriage_returns_take_the_counts_along() {
         ("9426 C849 94AD", "14:2", ""),
         ("9426 C849 94AD C180 94AD 8020", "13:2 14:1 15:1", ""),
         ("9425 C849 94AD C180 94AD", "14:1", ""),
-        ("94A7 91E0 C849 94AD C180 94AD", "1:1", ""),
+        ("94A7 91E0 C849 94AD C180 94AD", "2:2 3:1", ""),
+        ("9425 9140 C849 94AD C180 94AD", "1:1", ""),
         ("9429 C849 94AD", "15:2", ""),
     ]);
 }
@@ -181,9 +155,11 @@ fn a_moved_window_takes_the_counts_along() {
         (&with("9770"), "8:1 9:2 10:3", ""),
         (&with("94F2"), "13:1 14:2 15:3", ""),
         (&with("9440"), "12:1 13:2 14:3", ""),
-        // what falls above row 1 is lost, and stays so
-        (&with("91E0"), "1:2 2:3", ""),
-        (&with("9140 94E0"), "15:3", ""),
+        // a base row above the fit is lowered, and no row is lost
+        (&with("91E0"), "1:1 2:2 3:3", ""),
+        (&with("9140 94E0"), "13:1 14:2 15:3", ""),
+        (&with("9140 94A7"), "2:1 3:2 4:3", ""),
+        (&with("9140 9425"), "2:2 3:3", ""),
     ]);
 }
 

@@ -177,35 +177,36 @@ fn a_preamble_sets_the_pen_and_cells_already_there_keep_theirs() {
 }
 
 #[test]
-fn roll_up_deeper_than_fits_keeps_the_base_row() {
+fn roll_up_deeper_than_fits_lowers_the_base_row_and_keeps_column_and_pen() {
     let mut desk = Desk::after("9425 9140 C849");
-    assert_eq!(desk.displayed(), "1@1 4849");
+    assert_eq!(desk.displayed(), "2@1 4849");
     desk.feed("94A7");
-    assert_eq!(desk.displayed(), "1@1 4849");
-    assert_eq!(desk.cursor(ROLL_UP), [1, 3, 0]);
+    assert_eq!(desk.displayed(), "4@1 4849");
+    assert_eq!(desk.cursor(ROLL_UP), [4, 3, 0]);
     assert_eq!(desk.desk[DEPTH], 4);
     desk.feed("94AD");
-    assert_eq!(desk.displayed(), "");
-    assert_eq!(desk.cursor(ROLL_UP), [1, 1, 0]);
+    assert_eq!(desk.displayed(), "3@1 4849");
+    assert_eq!(desk.cursor(ROLL_UP), [4, 1, 0]);
 }
 
 #[test]
-fn carriage_return_in_a_window_cut_at_row_1() {
-    let desk = Desk::after("94A7 91E0 C180 94AD C280");
-    assert_eq!(desk.displayed(), "1@1 41; 2@1 42");
-    let mut desk = desk;
-    desk.feed("94AD");
-    assert_eq!(desk.displayed(), "1@1 42");
+fn carriage_return_in_a_window_whose_top_is_row_1() {
+    let mut desk = Desk::after("94A7 91E0 C180 94AD C280");
+    assert_eq!(desk.displayed(), "3@1 41; 4@1 42");
+    for shown in ["2@1 41; 3@1 42", "1@1 41; 2@1 42", "1@1 42", ""] {
+        desk.feed("94AD 94AD");
+        assert_eq!(desk.displayed(), shown);
+    }
 }
 
 #[test]
-fn rows_lost_above_row_1_stay_lost() {
+fn no_row_is_lost_above_row_1() {
     let mut desk = Desk::after("9426 C180 94AD C280 94AD 4380");
     assert_eq!(desk.displayed(), "13@1 41; 14@1 42; 15@1 43");
     desk.feed("91E0");
-    assert_eq!(desk.displayed(), "1@1 42; 2@1 43");
+    assert_eq!(desk.displayed(), "1@1 41; 2@1 42; 3@1 43");
     desk.feed("94E0");
-    assert_eq!(desk.displayed(), "14@1 42; 15@1 43");
+    assert_eq!(desk.displayed(), "13@1 41; 14@1 42; 15@1 43");
 }
 
 #[test]
@@ -342,31 +343,39 @@ fn with_the_mark_set_displayed_cells_lie_in_the_window() {
         assert!(valid_cells(&desk, &[(hidden, 0x41)]), "{row}");
         assert_eq!(valid_cells(&desk, &[(shown, 0x41), (DEPTH, 4)]), row >= 12);
     }
-    // A base row near the top: the window is cut off at row 1.
-    let low = [(ROLL_UP, 2), (DEPTH, 4)];
+    // A base row near the top: the window fits, or it is none.
     let text = Desk::place(DISPLAYED, 15, 1);
-    assert!(!valid(&desk, &low));
-    assert!(valid_cells(
-        &desk,
-        &[low[0], low[1], (text, 0), (text + 2, 0)]
-    ));
+    for (base, fits) in [(2, false), (3, false), (4, true)] {
+        let top = [(ROLL_UP, base), (DEPTH, 4)];
+        let empty = [(text, 0), (text + 2, 0)];
+        let first = (Desk::place(DISPLAYED, 1, 7), 0x41);
+        assert!(!valid(&desk, &top));
+        assert_eq!(valid_cells(&desk, &[top, empty].concat()), fits, "{base}");
+        let shown = [&top[..], &empty, &[first]].concat();
+        assert_eq!(valid_cells(&desk, &shown), fits, "{base}");
+    }
 }
 
 #[test]
-fn mark_depth_and_style_belong_together() {
+fn mark_depth_base_row_and_style_belong_together() {
     let desk = Desk::after("8080");
     for style in 0..=4 {
         for mark in 0..=2 {
             for depth in 0..=5 {
-                let ranges = style <= 3 && mark <= 1 && matches!(depth, 0 | 2..=4);
-                let mark_rule = mark == 0 || depth >= 2;
-                let style_rule = match style {
-                    1 => mark == 1,
-                    3 => mark == 0,
-                    _ => true,
-                };
-                let changes = [(STYLE, style), (MARK, mark), (DEPTH, depth)];
-                assert_eq!(valid(&desk, &changes), ranges && mark_rule && style_rule);
+                for base in 0..=16 {
+                    let ranges = style <= 3 && mark <= 1 && matches!(depth, 0 | 2..=4);
+                    let rows = (1..=15).contains(&base);
+                    let mark_rule = mark == 0 || (depth >= 2 && base >= depth);
+                    let style_rule = match style {
+                        1 => mark == 1,
+                        3 => mark == 0,
+                        _ => true,
+                    };
+                    let fields = [(STYLE, style), (MARK, mark), (DEPTH, depth)];
+                    let changes = [&fields[..], &[(ROLL_UP, base)]].concat();
+                    let rule = ranges && rows && mark_rule && style_rule;
+                    assert_eq!(valid(&desk, &changes), rule, "{changes:?}");
+                }
             }
         }
     }

@@ -20,6 +20,11 @@ tabbed-requires c κs =
     let p = rw (c .before .code4 .given .1) at (c .before .before .before .before .pre .1) in
     (c .before .before .before .before .pre .0 .ranged, omega arith)
 
+ru-requires : tie.Need-ru-requires
+ru-requires c κs =
+    let p = rw (c .before .before .code5 .given .1) at (c .before .before .before .before .before .pre .1) in
+    (c .before .before .before .before .before .pre .0, omega arith)
+
 returns : tie.Need-returns
 returns c = rw (c .before .before .before .before .before .code .given .1) (c .before .before .preamble .ensures)
 
@@ -97,7 +102,7 @@ done-spec =
     (λ c. search needs)
     (λ c κs. search needs)
     (λ c. search needs)
-    (λ c κs. search needs)
+    ru-requires
     (λ c. search needs)
     (λ c κs. search needs)
     (λ c. search needs)

@@ -1,5 +1,6 @@
 -- `moved` meets its contract. Assumes nothing.
 use mathlib.Core.Path.{ap, sym}
+use native.Mathlib.Omega.{arith}
 use denote.Ref.{now}
 use borrow.Author.Needs.{needs}
 use Rattle.state.specs.State.{captions}
@@ -13,7 +14,16 @@ returns : tie.Need-returns
 returns c =
     let start = c .before .before .before .before .before .before .before in
     let a = start .args in
-    sym (movedOf-same (captions (a .mode) (now (a .cells))) (start .pre .0) (a .to) (start .pre .2) (c .if1 .taken))
+    let p = start .pre in
+    sym (movedOf-same (captions (a .mode) (now (a .cells))) (p .0) (a .to) (p .1) (p .2) (p .3) (c .if1 .taken))
+
+move-window-requires : tie.Need-move-window-requires
+move-window-requires c κs =
+    let p = c .before .before .before .before .before .before .before .before .pre in
+    let h = p .0 in
+    let fits = h .fits (p .2) in
+    let size = h .cells .size in
+    (record { early = omega arith; whole = omega arith }, omega arith, omega arith, omega arith, omega arith, omega arith)
 
 returns-2 : tie.Need-returns-2
 unfolding movedOf
@@ -24,4 +34,4 @@ returns-2 c =
     ap (captions (cursors m (a .to) (m .pop) (m .paint))) (w .move-window .ensures)
 
 pub moved-spec : {M : Type 1} → statement M
-moved-spec = tie.close (tie.spec returns (λ c κs. search needs) (λ c. search needs) returns-2)
+moved-spec = tie.close (tie.spec returns move-window-requires (λ c. search needs) returns-2)

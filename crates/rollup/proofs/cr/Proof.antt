@@ -12,8 +12,9 @@ roll-requires : tie.Need-roll-requires
 roll-requires c κs =
     let s = c .before .before .before .before .before in
     let r = s .pre .ranged in
-    let deep = r .style .deep (r .style .rolls (c .before .before .before .if1 .taken)) in
-    (search needs, r .roll .place .row-low, r .roll .place .row-high, omega arith)
+    let set = r .style .rolls (c .before .before .before .if1 .taken) in
+    let deep = r .style .deep set in
+    (search needs, r .roll .place .row-high, omega arith, s .pre .fits set)
 
 returns : tie.Need-returns
 unfolding crOf

@@ -1,14 +1,19 @@
 -- `ru` meets its contract. Assumes nothing.
 use mathlib.Core.Path.{ap, _∙_}
+use denote.Ref.{now}
 use borrow.Author.Needs.{needs}
-use Rattle.state.specs.State.{Captions}
+use Rattle.state.specs.State.{Captions, captions}
 use Rattle.rollup.specs.Rollup.{ruOf, framedOf}
-use Rattle.rollup.proofs.Laws.{openedOf-sound}
+use Rattle.rollup.proofs.Laws.{openedOf-sound, openedOf-fits}
 use Rattle.rollup.proofs.ru.Statement.{statement}
 use Rattle.rollup.proofs.ru.Tie as tie
 
 framed-requires : tie.Need-framed-requires
-framed-requires c κs = rw (c .before .before .before .opened .ensures) (openedOf-sound _ (c .before .before .before .before .before .before .pre))
+framed-requires c κs =
+    let s = c .before .before .before .before .before .before in
+    let d = captions (s .args .mode) (now (s .args .cells)) in
+    let e = c .before .before .before .opened .ensures in
+    (rw e (openedOf-sound d (s .pre .0) (s .args .n) (s .pre .1)), rw (ap (λ (x : Captions). x .mode .roll .row .0) e) (openedOf-fits d (s .pre .0) (s .args .n) (s .pre .1)))
 
 returns : tie.Need-returns
 unfolding ruOf

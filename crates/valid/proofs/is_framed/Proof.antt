@@ -10,6 +10,9 @@ use Rattle.valid.specs.Check.{isFramed}
 use Rattle.valid.proofs.is_framed.Statement.{statement}
 use Rattle.valid.proofs.is_framed.Tie as tie
 
+rows-above-requires : tie.Need-rows-above-requires
+rows-above-requires c κs = c .before .before .pre .2 (c .if1 .taken)
+
 returns : tie.Need-returns
 unfolding isFramed
 returns c =
@@ -17,7 +20,7 @@ returns c =
     let f = above .before in
     let a = f .before .before .args in
     let bs = now (a .bytes) in
-    let top = c .before .is-blank .ensures ∙ ap (λ (k : ℕ). blankOf bs 64 (k * 64)) (above .rows-above .ensures .0) in
+    let top = c .before .is-blank .ensures ∙ ap (λ (k : ℕ). blankOf bs 64 (k * 64)) (above .rows-above .ensures) in
     rw (eq-eqb (a .mark) 1 (f .if1 .taken)) (λ i. top i && c .is-blank2 .ensures i)
 
 returns-2 : tie.Need-returns-2
@@ -28,7 +31,7 @@ pub is-framed-spec : {M : Type 1} → statement M
 is-framed-spec =
     tie.close
     (tie.spec
-    (λ c κs. search needs)
+    rows-above-requires
     (λ c. search needs)
     (λ c. search needs)
     (λ c κs. search needs)

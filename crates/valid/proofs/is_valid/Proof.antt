@@ -2,7 +2,7 @@
 use mathlib.Core.Path.{refl, sym, _∙_}
 use denote.Ref.{now}
 use borrow.Author.Needs.{needs}
-use Rattle.valid.proofs.Clauses.{isValidState-ranged}
+use Rattle.valid.proofs.Clauses.{isValidState-ranged, isValidState-fits}
 use Rattle.valid.proofs.Rows.{check-joined, isValid-other}
 use Rattle.valid.proofs.is_valid.Statement.{statement}
 use Rattle.valid.proofs.is_valid.Tie as tie
@@ -11,7 +11,8 @@ is-framed-requires : tie.Need-is-framed-requires
 is-framed-requires c κs =
     let t = c .before .before .before in
     let s = t .before .before .read-state .result in
-    (search needs, isValidState-ranged s (sym (t .before .is-valid-state .ensures) ∙ t .if2 .taken) .roll .place .row-high)
+    let valid = sym (t .before .is-valid-state .ensures) ∙ t .if2 .taken in
+    (search needs, isValidState-ranged s valid .roll .place .row-high, isValidState-fits s valid)
 
 returns : tie.Need-returns
 returns c =

@@ -10,7 +10,7 @@ use Rattle.valid.proofs.is_valid_state.Tie as tie
 returns : tie.Need-returns
 unfolding isValidState
 returns c =
-    let expected = c .before .before .before .before .before in
+    let expected = c .before .before .before .before .before .before .before in
     let paint = expected .before in
     let pop = paint .before in
     let roll = pop .before in
@@ -19,7 +19,8 @@ returns c =
     let deep = isWithin 2 4 (m .depth) in
     λ i. leb (s .acts) 16000 && isWithin 1 2 (s .selected) && leb (s .stream) 2 && leb (m .style) 3 && leb (m .text) 1 && leb (m .mark) 1
     && (eqb (m .depth) 0 || deep) && roll .is-cursor .ensures i && pop .is-cursor2 .ensures i && paint .is-cursor3 .ensures i && expected .is-expected .ensures i
-    && not-or (eqb (m .mark) 1) deep i && not-or (eqb (m .style) 1) (eqb (m .mark) 1) i && not-or (eqb (m .style) 3) (eqb (m .mark) 0) i
+    && not-or (eqb (m .mark) 1) deep i && not-or (eqb (m .mark) 1) (leb (m .depth) (m .roll .row .0)) i
+    && not-or (eqb (m .style) 1) (eqb (m .mark) 1) i && not-or (eqb (m .style) 3) (eqb (m .mark) 0) i
 
 pub is-valid-state-spec : {M : Type 1} → statement M
 is-valid-state-spec =

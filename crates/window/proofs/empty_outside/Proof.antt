@@ -17,7 +17,7 @@ returns c =
     let a = above .before .before .args in
     c .before .before .empty-rows2 .ensures
     ∙ ap (λ (d : List ℕ). emptyRowsOf d (a .memory) (a .base .0) (15 - a .base .0))
-    (first .empty-rows .ensures ∙ ap (emptyRowsOf (now (a .cells)) (a .memory) 0) (above .rows-above .ensures .0))
+    (first .empty-rows .ensures ∙ ap (emptyRowsOf (now (a .cells)) (a .memory) 0) (above .rows-above .ensures))
 
 pub empty-outside-spec : {M : Type 1} → statement M
 empty-outside-spec =

@@ -1,6 +1,6 @@
 -- `move_window` meets its contract. Assumes nothing.
-use mathlib.Core.Path.{ap, _∙_}
-use Prim.Native.Nat.{ℕ, _+_, _-_, _*_, min}
+use mathlib.Core.Path.{_∙_}
+use Prim.Native.Nat.{_+_, _*_}
 use denote.Ref.{now}
 use borrow.Author.Needs.{needs}
 use Rattle.facts.specs.Over.{over, part}
@@ -12,27 +12,21 @@ use Rattle.window.proofs.move_window.Tie as tie
 returns : tie.Need-returns
 unfolding moveOf
 returns c =
-    let second = c .before .before .before .before .before .before in
-    let first = second .before in
-    let a = first .before .before .args in
+    let to = c .before .before .before .before in
+    let from = to .before in
+    let a = from .before .before .args in
     let d = now (a .cells) in
-    let shared = second .least2 .ensures ∙ ap (λ (k : ℕ). min k (a .depth)) (first .least .ensures) in
     c .before .before .carry .ensures
-    ∙ (λ i. over (emptyAllOf-is d (a .memory) i) (a .memory + (a .new .0 - shared i) * 64) (part d (a .memory + (a .old .0 - shared i) * 64) (shared i * 64)))
+    ∙ (λ i. over (emptyAllOf-is d (a .memory) i) (a .memory + to .rows-above2 .ensures i * 64) (part d (a .memory + from .rows-above .ensures i * 64) (a .depth * 64)))
 
 pub move-window-spec : {M : Type 1} → statement M
 move-window-spec =
     tie.close
     (tie.spec
     (λ c κs. search needs)
+    (λ c. search needs)
+    (λ c. search needs)
     (λ c κs. search needs)
-    (λ c. search needs)
-    (λ c. search needs)
-    (λ c. search needs)
-    (λ c. search needs)
-    (λ c. search needs)
-    (λ c. search needs)
-    (λ c. search needs)
     (λ c. search needs)
     (λ c. search needs)
     (λ c. search needs)

@@ -19,7 +19,7 @@ returns c =
     c .before .before .empty-rows .ensures
     ∙ ap (λ (d : List ℕ). emptyRowsOf d (a .memory) (a .base .0 - 1) 1)
     (slid .slide .ensures
-    ∙ ap (λ (k : ℕ). over (now (a .cells)) (a .memory + k * 64) (part (now (a .cells)) (a .memory + k * 64 + 64) ((a .base .0 - 1 - k) * 64))) (above .rows-above .ensures .0))
+    ∙ ap (λ (k : ℕ). over (now (a .cells)) (a .memory + k * 64) (part (now (a .cells)) (a .memory + k * 64 + 64) ((a .base .0 - 1 - k) * 64))) (above .rows-above .ensures))
 
 pub roll-spec : {M : Type 1} → statement M
 roll-spec =

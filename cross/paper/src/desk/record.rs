@@ -214,12 +214,15 @@ fn counts(grid: &Grid) -> [u8; ROWS] {
 }
 
 /// "mark set requires depth 2–4 and cells in the window only; roll-up style
-/// requires the mark, paint-on style that it is clear."
+/// requires the mark, paint-on style that it is clear." "A valid record with
+/// the mark set has its base row no smaller than its depth": a window that does
+/// not fit is asked for no cells.
 fn mark_holds(decoder: &Decoder) -> bool {
     let style = match decoder.style {
         Some(Style::RollUp) => decoder.mark,
         Some(Style::PaintOn) => !decoder.mark,
         Some(Style::PopOn) | None => true,
     };
-    style && (!decoder.mark || (decoder.depth >= 2 && decoder.window_holds_all()))
+    let window = || decoder.depth >= 2 && decoder.window_fits() && decoder.window_holds_all();
+    style && (!decoder.mark || window())
 }

@@ -31,6 +31,12 @@ pub const TOO_FAR: Answer = Err(Refusal::TooFar);
 pub const LINE: Answer = Err(Refusal::Line);
 pub const INVALID: Answer = Err(Refusal::Invalid);
 
+/// The preambles of rows 1 to 15, in column 1 and with a plain pen.
+pub const PREAMBLES: [&str; 15] = [
+    "9140", "91E0", "9240", "92E0", "1540", "15E0", "1640", "16E0", "9740", "97E0", "1040", "1340",
+    "13E0", "9440", "94E0",
+];
+
 /// A desk and its buffers.
 #[derive(Clone, Debug, PartialEq, Eq)]
 pub struct Desk {
@@ -169,6 +175,26 @@ impl Desk {
         assert_eq!(call(self), answer);
         assert!(*self == before, "a refusal changed a byte");
     }
+}
+
+/// Every call that is lent a record, but opening, which looks at none.
+pub fn refused_by_all(desk: &mut Desk) {
+    let calls: [fn(&mut Desk) -> Answer; 7] = [
+        |desk| desk.take(0x80, 0x80),
+        |desk| desk.select(1),
+        |desk| desk.select(3),
+        |desk| desk.back(0),
+        |desk| desk.back(60_000),
+        |desk| desk.row(1),
+        |desk| desk.row(16),
+    ];
+    for call in calls {
+        desk.refuses(INVALID, call);
+    }
+    let mut out = [0xA5; 960];
+    desk.refuses(INVALID, |desk| desk::view_into(&desk.desk, &mut out));
+    assert_eq!(out, [0xA5; 960]);
+    assert_eq!(desk::view(&desk.desk).err(), INVALID.err());
 }
 
 /// Writes into a record how many cells of each row are filled, by its codes.
