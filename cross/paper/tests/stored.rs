@@ -1,5 +1,6 @@
 //! "all else is run by a program and compared": what the programs under
-//! `crates/` must print is what this implementation prints of the same input.
+//! `crates/` must print is what this implementation prints of the same input,
+//! and so is the register of each sample tape.
 
 use std::fs::{self, File};
 use std::path::Path;
@@ -30,4 +31,20 @@ fn stored_registers_are_the_papers() {
 #[test]
 fn stored_answers_of_the_desk_are_the_papers() {
     prints_the_stored_output(env!("CARGO_BIN_EXE_paper_desk"), "desk_main");
+}
+
+#[test]
+fn stored_registers_of_the_sample_tapes_are_the_papers() {
+    let tapes = Path::new(env!("CARGO_MANIFEST_DIR")).join("../../tapes");
+    let mut held = 0;
+    for file in fs::read_dir(tapes).unwrap() {
+        let reel = file.unwrap().path();
+        if reel.extension().is_some_and(|name| name == "reel") {
+            let stored = fs::read(reel.with_extension("register")).unwrap();
+            let register = paper::register::register(&fs::read(&reel).unwrap());
+            assert!(register == stored, "{}", reel.display());
+            held += 1;
+        }
+    }
+    assert!(held >= 9, "{held}");
 }
