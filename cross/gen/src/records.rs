@@ -6,6 +6,10 @@ use crate::prng::Prng;
 
 /// The bytes of a record.
 pub const RECORD_BYTES: usize = 1_984;
+/// The depth of the window.
+const DEPTH: usize = 7;
+/// The row of roll-up's cursor.
+const BASE_ROW: usize = 8;
 /// How many cells of each displayed row are filled.
 pub const DISPLAYED_COUNTS: Range<usize> = 19..34;
 /// How many of each non-displayed row.
@@ -44,20 +48,28 @@ pub fn odd_record(seed: u64, acts: u16) -> Vec<u8> {
         record[cursor + 2] = pen(&mut prng);
     }
     if marked {
-        record[8] = record[8].max(record[7]);
+        record[BASE_ROW] = base_row(&mut prng, record[DEPTH]);
     }
     let (a, b) = expected(&mut prng);
     record[17] = a;
     record[18] = b;
-    let base = usize::from(record[8]);
-    let window = base.saturating_sub(usize::from(record[7]))..base;
-    for row in 0..15 {
-        let shown = !marked || window.contains(&row);
-        fill_row(&mut prng, &mut record, DISPLAYED, row, shown);
-        fill_row(&mut prng, &mut record, HIDDEN, row, true);
-    }
+    fill_cells(&mut prng, &mut record);
     mend_counts(&mut record);
     record
+}
+
+/// Cells of both memories; with the mark set, the displayed ones lie in the
+/// window.
+fn fill_cells(prng: &mut Prng, record: &mut [u8]) {
+    let rows = if record[6] == 1 {
+        rows_with_text(prng, record[BASE_ROW], record[DEPTH])
+    } else {
+        0..15
+    };
+    for row in 0..15 {
+        fill_row(prng, record, DISPLAYED, row, rows.contains(&row));
+        fill_row(prng, record, HIDDEN, row, true);
+    }
 }
 
 /// Makes the counts of a record right: how many codes of each row are not 0.
@@ -91,6 +103,28 @@ pub fn playing_record(prng: &mut Prng, acts: u16, channel: u8, tape: &[u8]) -> V
         record[17..19].copy_from_slice(&pair);
     }
     record
+}
+
+/// A base row that takes a window of this depth, often the first that does or
+/// the one below it.
+fn base_row(prng: &mut Prng, depth: u8) -> u8 {
+    if prng.percent(50) {
+        depth + prng.byte_within(0, 1)
+    } else {
+        prng.byte_within(depth, 15)
+    }
+}
+
+/// The displayed rows that may have cells: those of the window, or only some at
+/// its top, so that it may be moved up without a cell below it.
+fn rows_with_text(prng: &mut Prng, base: u8, depth: u8) -> Range<usize> {
+    let rows = if prng.percent(50) {
+        depth
+    } else {
+        prng.byte_within(0, depth - 1)
+    };
+    let top = usize::from(base - depth);
+    top..top + usize::from(rows)
 }
 
 /// Any column, the edges often.
@@ -180,7 +214,7 @@ pub fn odd_cell(prng: &mut Prng) -> (usize, [u8; 2]) {
 /// One targeted change to a record: the place and the byte written there. The
 /// values lie at the edges of the field, inside and outside.
 pub fn field_damage(prng: &mut Prng) -> (usize, u8) {
-    let place = match prng.below(12) {
+    let place = match prng.below(15) {
         0 => 0,
         1 => 1,
         2..=7 => prng.within(2, 18),
@@ -188,12 +222,13 @@ pub fn field_damage(prng: &mut Prng) -> (usize, u8) {
         8 => prng.within(49, 63),
         9 => prng.within(DISPLAYED, HIDDEN - 1),
         10 => prng.within(HIDDEN, RECORD_BYTES - 1),
-        _ => DISPLAYED + 2 * prng.below(480),
+        11 => DISPLAYED + 2 * prng.below(480),
+        _ => return fit_damage(prng),
     };
     let edges: &[u8] = match place {
         0 | 1 => &[0, 0x3E, 0x3F, 0x80, 0x81, 0xE7, 0xE8, 0xE9, 0xFF],
         2..=7 => &[0, 1, 2, 3, 4, 5, 0xFF],
-        8 | 11 | 14 => &[0, 1, 2, 14, 15, 16, 0xFF],
+        BASE_ROW | 11 | 14 => &[0, 1, 2, 14, 15, 16, 0xFF],
         9 | 12 | 15 => &[0, 1, 2, 31, 32, 33, 0xFF],
         10 | 13 | 16 => &[0, 6, 7, 0x0F, 0x17, 0x3E, 0x3F, 0x40, 0x80],
         17 => &[
@@ -210,6 +245,16 @@ pub fn field_damage(prng: &mut Prng) -> (usize, u8) {
         _ => &[0, 1, 6, 7, 0x3E, 0x3F, 0x40, 0x80],
     };
     (place, prng.pick(edges))
+}
+
+/// A change to the depth or the base row, to what each of them may be alone:
+/// whether a record may have both is seen where one of them changes.
+pub fn fit_damage(prng: &mut Prng) -> (usize, u8) {
+    if prng.percent(40) {
+        (DEPTH, prng.byte_within(2, 4))
+    } else {
+        (BASE_ROW, prng.byte_within(1, 4))
+    }
 }
 
 #[cfg(test)]
@@ -238,6 +283,46 @@ mod tests {
             let mut mended = record.clone();
             mend_counts(&mut mended);
             assert_eq!(record, mended);
+        }
+    }
+
+    #[test]
+    fn made_records_with_the_mark_stand_at_the_edge_of_the_fit_often() {
+        let mut rows_more = [0; 3];
+        for seed in 0..3_000 {
+            let record = odd_record(seed, 7);
+            if record[6] == 1 {
+                assert!(record[BASE_ROW] >= record[DEPTH]);
+                rows_more[usize::from(record[BASE_ROW] - record[DEPTH]).min(2)] += 1;
+            }
+        }
+        assert!(rows_more[0] >= 400 && rows_more[1] >= 400, "{rows_more:?}");
+    }
+
+    /// Whether a base row smaller than the depth is all that is wrong with a
+    /// record that was valid before its depth or base row changed: the mark is
+    /// set, and no displayed cell stands below the base row.
+    fn base_row_alone_is_wrong(record: &[u8]) -> bool {
+        let (base, depth) = (record[BASE_ROW], record[DEPTH]);
+        let below = usize::from(base) + DISPLAYED_COUNTS.start..DISPLAYED_COUNTS.end;
+        let ranges = (1..=15).contains(&base) && (2..=4).contains(&depth);
+        record[6] == 1 && ranges && base < depth && record[below].iter().all(|&count| count == 0)
+    }
+
+    #[test]
+    fn a_base_row_smaller_than_the_depth_is_often_all_that_is_wrong() {
+        let mut prng = Prng::new(1);
+        let mut alone = [[0; 5]; 5];
+        for seed in 0..20_000 {
+            let mut record = odd_record(seed, 7);
+            let (place, byte) = field_damage(&mut prng);
+            record[place] = byte;
+            if matches!(place, DEPTH | BASE_ROW) && base_row_alone_is_wrong(&record) {
+                alone[usize::from(record[BASE_ROW])][usize::from(record[DEPTH])] += 1;
+            }
+        }
+        for (base, depth) in [(1, 2), (1, 3), (1, 4), (2, 3), (2, 4), (3, 4)] {
+            assert!(alone[base][depth] >= 20, "{base} {depth}: {alone:?}");
         }
     }
 }

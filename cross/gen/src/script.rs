@@ -4,8 +4,8 @@ use std::fmt;
 
 use crate::prng::Prng;
 use crate::records::{
-    count_place, field_damage, is_cell, mend_counts, odd_cell, odd_record, DISPLAYED_COUNTS,
-    HIDDEN_COUNTS, RECORD_BYTES,
+    count_place, field_damage, fit_damage, is_cell, mend_counts, odd_cell, odd_record,
+    DISPLAYED_COUNTS, HIDDEN_COUNTS, RECORD_BYTES,
 };
 use crate::traffic::{self, Traffic};
 
@@ -624,7 +624,7 @@ impl Writer {
             _ => self.prng.within(1, 16),
         };
         let place = (s - 1) * RECORD_BYTES;
-        match self.prng.below(8) {
+        match self.prng.below(10) {
             0..=3 => self.damage(Part::Tray, place),
             4 => self.damage_counts(Part::Tray, place),
             5 => {
@@ -636,6 +636,12 @@ impl Writer {
                 let other = self.prng.pick(&[0, 0, 0, 1, 1_000]);
                 let acts = (1_000 * s as u16).wrapping_add(other);
                 self.arrange(Arrange::OddSlot(s, seed, acts));
+            }
+            7 | 8 => {
+                let seed = self.prng.bits();
+                self.arrange(Arrange::OddSlot(s, seed, 1_000 * s as u16));
+                let (field, byte) = fit_damage(&mut self.prng);
+                self.arrange(Arrange::Poke(Part::Tray, place + field, byte));
             }
             _ => self.arrange(Arrange::KeepSlot(s, 1_000 * s as u16)),
         }

@@ -56,7 +56,7 @@ const KINDS: [(Kind, usize); 11] = [
     (Kind::Return, 12),
     (Kind::Text, 2),
     (Kind::Unassigned, 6),
-    (Kind::Any, 8),
+    (Kind::Any, 12),
 ];
 
 /// The a of a preamble, by the paper's table; 10h only with b below 60h.
@@ -80,7 +80,7 @@ fn control(prng: &mut Prng, kind: Kind) -> (u8, u8) {
 }
 
 /// A preamble to any row; rows near the top and the bottom come often, so that
-/// windows are cut off and move back.
+/// windows are lowered and move back.
 fn preamble(prng: &mut Prng) -> (u8, u8) {
     let (a, b) = match prng.below(4) {
         0 => (0x11, prng.byte_within(0x40, 0x7F)),
@@ -92,6 +92,12 @@ fn preamble(prng: &mut Prng) -> (u8, u8) {
     } else {
         (a, b)
     }
+}
+
+/// A preamble to one of the rows 1 to 4: no window fits on row 1, and each on
+/// row 4.
+fn high_preamble(prng: &mut Prng) -> (u8, u8) {
+    (prng.pick(&[0x11, 0x11, 0x12]), prng.byte_within(0x40, 0x7F))
 }
 
 /// A pair from 10h on that the paper assigns nothing to.
@@ -168,7 +174,8 @@ impl Traffic {
     fn event(&mut self) {
         self.away = self.away.saturating_sub(1);
         match self.prng.below(100) {
-            0..=39 => self.text(),
+            0..=34 => self.text(),
+            35..=39 => self.high_window(),
             40..=84 => self.code(),
             85..=89 => self.nulls(),
             90..=93 => self.line_of_roll_up(),
@@ -181,7 +188,12 @@ impl Traffic {
 
     /// A run of text of 1 to 20 pairs; some end in half a pair.
     fn text(&mut self) {
-        for _ in 0..self.prng.within(1, 20) {
+        self.letters(20);
+    }
+
+    /// One pair of text to as many as these.
+    fn letters(&mut self, most: usize) {
+        for _ in 0..self.prng.within(1, most) {
             let a = self.prng.byte_within(0x20, 0x7F);
             let b = match self.prng.below(12) {
                 0 => 0,
@@ -251,6 +263,53 @@ impl Traffic {
             self.queue.extend_from_slice(&[pair, pair]);
         }
         self.text();
+    }
+
+    /// Roll-up at the top of the screen: a window with some lines on one of the
+    /// rows 1 to 4, then codes that it may not fit for, each with text behind it.
+    fn high_window(&mut self) {
+        let channel = self.bit();
+        let depth = self.prng.pick(&[0x25, 0x25, 0x26, 0x27]);
+        let base = high_preamble(&mut self.prng);
+        self.send(channel, &[(0x14, depth), base]);
+        self.letters(2);
+        for _ in 0..self.prng.within(0, 3) {
+            self.send(channel, &[(0x14, 0x2D)]);
+            self.letters(2);
+        }
+        for _ in 0..self.prng.within(1, 3) {
+            self.move_high_window(channel);
+            self.letters(2);
+        }
+    }
+
+    /// A preamble to the rows 1 to 4, or RU, which is deeper often; before it a
+    /// tab and a mid-row code, so that the column and the pen that it keeps are
+    /// seen, or RCL, which keeps the mark.
+    fn move_high_window(&mut self, channel: u8) {
+        if self.prng.percent(40) {
+            let tab = control(&mut self.prng, Kind::Tab);
+            let pen = control(&mut self.prng, Kind::MidRow);
+            self.send(channel, &[pen, tab]);
+        }
+        if self.prng.percent(15) {
+            self.send(channel, &[(0x14, 0x20)]);
+        }
+        let code = match self.prng.below(5) {
+            0 => high_preamble(&mut self.prng),
+            1..=3 => (0x14, self.prng.byte_within(0x26, 0x27)),
+            _ => (0x14, 0x25),
+        };
+        self.send(channel, &[code]);
+    }
+
+    /// Codes as a broadcaster sends them, twice; one in four is sent once.
+    fn send(&mut self, channel: u8, codes: &[(u8, u8)]) {
+        for &(a, b) in codes {
+            let pair = good(a | channel, b);
+            let times = self.prng.pick(&[1, 2, 2, 2]);
+            self.queue.resize(self.queue.len() + times, pair);
+        }
     }
 
     /// A first byte from 00h to 0Fh with any second one.
@@ -330,5 +389,50 @@ mod tests {
         }
         let missed = met[0x10..].iter().flat_map(|row| &row[0x20..]);
         assert_eq!(missed.filter(|&&met| !met).count(), 0);
+    }
+
+    /// The row of a preamble to the rows 1 to 3, by the paper's table.
+    fn high_row(pair: Pair) -> Option<u8> {
+        match (pair.0 & 0x7F, pair.1 & 0x7F) {
+            (0x11, 0x40..=0x5F) => Some(1),
+            (0x11, 0x60..=0x7F) => Some(2),
+            (0x12, 0x40..=0x5F) => Some(3),
+            _ => None,
+        }
+    }
+
+    /// The depth that RU sets.
+    fn depth(pair: Pair) -> Option<u8> {
+        match (pair.0 & 0x7F, pair.1 & 0x7F) {
+            (0x14, b @ 0x25..=0x27) => Some(b - 0x23),
+            _ => None,
+        }
+    }
+
+    #[test]
+    fn a_row_above_the_fit_comes_often_behind_roll_up_and_roll_up_behind_it() {
+        let pairs = structured(1, 100_000);
+        let mut high = [[0; 5]; 4];
+        let mut deeper = [[0; 5]; 5];
+        for (place, &pair) in pairs.iter().enumerate() {
+            // What was set last, within the pairs of one event or two.
+            let before = pairs[place.saturating_sub(30)..place].iter().rev();
+            let set = before.copied().find_map(depth);
+            match (set, high_row(pair), depth(pair)) {
+                (Some(set), Some(row), _) if row < set => {
+                    high[usize::from(row)][usize::from(set)] += 1;
+                }
+                (Some(set), _, Some(asked)) if asked > set => {
+                    deeper[usize::from(set)][usize::from(asked)] += 1;
+                }
+                _ => {}
+            }
+        }
+        for (row, depth) in [(1, 2), (1, 3), (1, 4), (2, 3), (2, 4), (3, 4)] {
+            assert!(high[row][depth] >= 100, "{row} {depth}: {high:?}");
+        }
+        for (depth, asked) in [(2, 3), (2, 4), (3, 4)] {
+            assert!(deeper[depth][asked] >= 100, "{deeper:?}");
+        }
     }
 }

@@ -48,6 +48,67 @@ fn every_act_keeps_a_valid_record_valid() {
     }
 }
 
+/// How often, by the paper's words, a window with text does not fit: a preamble
+/// to row r at depth n, and RU n on base row r, as `[r][n]`.
+#[derive(Default, Debug)]
+struct Lowered {
+    preambles: [[u32; 5]; 4],
+    roll_ups: [[u32; 5]; 4],
+    /// RU on a column past 1, so that the column kept is seen.
+    behind_text_or_tab: u32,
+}
+
+impl Lowered {
+    /// Counts the pair that led from one record to the other.
+    fn count(&mut self, before: &[u8], after: &[u8], first: u8, second: u8) {
+        let (a, b) = (first & 0x77, second & 0x7F);
+        let pair = [first & 0x7F, b];
+        let expected = EXPECTED..EXPECTED + 2;
+        let acted = after[expected.clone()] == pair && before[expected] != pair;
+        let shown = before[DISPLAYED_COUNTS..HIDDEN_COUNTS]
+            .iter()
+            .any(|&n| n != 0);
+        if !acted || !shown || after[STREAM] != after[SELECTED] || before[MARK] == 0 {
+            return;
+        }
+        let row = match (a, b) {
+            (0x11, 0x40..=0x5F) => 1,
+            (0x11, 0x60..=0x7F) => 2,
+            (0x12, 0x40..=0x5F) => 3,
+            _ => 4,
+        };
+        let [base, depth] = [before[ROLL_UP], before[DEPTH]].map(usize::from);
+        if row < depth && before[STYLE] == 1 && before[TEXT] == 0 {
+            self.preambles[row][depth] += 1;
+        }
+        let asked = usize::from(b.wrapping_sub(0x23));
+        if a == 0x14 && (2..=4).contains(&asked) && base < asked {
+            self.roll_ups[base][asked] += 1;
+            self.behind_text_or_tab += u32::from(before[ROLL_UP + 1] > 1);
+        }
+    }
+}
+
+#[test]
+fn windows_with_text_that_do_not_fit_come_often() {
+    let mut lowered = Lowered::default();
+    for seed in 0..50 {
+        let mut desk = Desk::open();
+        for (first, second) in structured(seed, 2_000) {
+            let before = desk.desk.clone();
+            desk.take(first, second).unwrap();
+            lowered.count(&before, &desk.desk, first, second);
+        }
+    }
+    for (row, depth) in [(1, 2), (1, 3), (1, 4), (2, 3), (2, 4), (3, 4)] {
+        assert!(lowered.preambles[row][depth] >= 50, "{lowered:?}");
+    }
+    for (base, asked) in [(2, 3), (2, 4), (3, 4)] {
+        assert!(lowered.roll_ups[base][asked] >= 100, "{lowered:?}");
+    }
+    assert!(lowered.behind_text_or_tab >= 300, "{lowered:?}");
+}
+
 #[test]
 fn a_valid_record_is_written_as_it_was_read() {
     for seed in 0..3_000 {
