@@ -3,6 +3,7 @@
 
 mod counts;
 mod tapes;
+mod windows;
 
 use paper::bytes::good;
 use paper::codes::assigned;
@@ -11,6 +12,7 @@ use crate::machine::{Machine, Paper};
 use crate::run_scripts;
 use counts::CountSlip;
 use tapes::TapeSlip;
+use windows::WindowSlip;
 
 /// A slip. The first four are the paper's own list, as far as calls show them.
 #[derive(Clone, Copy, Debug, PartialEq, Eq)]
@@ -41,6 +43,7 @@ enum Slip {
     RowOfTheNextPlace,
     Count(CountSlip),
     Tape(TapeSlip),
+    Window(WindowSlip),
 }
 
 const SLIPS: [Slip; 24] = [
@@ -87,6 +90,7 @@ impl Slipped {
             _ if desk.len() != 1_984 => {}
             Slip::ZeroBytesNotChecked => desk[49..64].fill(0),
             Slip::Count(slip) => counts::overlook(slip, desk),
+            Slip::Window(slip) => windows::overlook(slip, desk),
             _ => {}
         }
         let result = call(desk);
@@ -141,6 +145,11 @@ impl Slipped {
             Slip::Count(slip) => {
                 let eoc = code == Some((0x14, 0x2F)) && acted && !repeat;
                 counts::after_take(slip, before, desk, eoc);
+            }
+            Slip::Window(slip) if acted && !repeat => {
+                if let Some(code) = code {
+                    windows::after_take(slip, before, desk, code);
+                }
             }
             Slip::PreambleKeepsFlash if b >= 0x40 && code.is_some() && acted && !repeat => {
                 for pen in [10, 13, 16] {
@@ -209,8 +218,10 @@ impl Machine for Slipped {
 
     fn back(&self, desk: &mut [u8], log: &mut [u8], tray: &mut [u8], k: u32) -> u32 {
         let before = (desk.to_vec(), log.to_vec(), tray.to_vec());
-        if let Slip::Count(slip) = self.0 {
-            counts::overlook_slots(slip, tray);
+        match self.0 {
+            Slip::Count(slip) => counts::overlook_slots(slip, tray),
+            Slip::Window(slip) => windows::overlook_slots(slip, tray),
+            _ => {}
         }
         let result = self.seen(desk, |desk| Paper.back(desk, log, tray, k));
         if result >> 16 != 0 {
@@ -285,7 +296,9 @@ fn steps_to_show(slip: Slip) -> Option<usize> {
 
 #[test]
 fn every_slip_is_found_and_its_script_is_short() {
-    for slip in SLIPS.into_iter().chain(counts::SLIPS.map(Slip::Count)) {
+    let counts = counts::SLIPS.map(Slip::Count);
+    let windows = windows::SLIPS.map(Slip::Window);
+    for slip in SLIPS.into_iter().chain(counts).chain(windows) {
         let steps = steps_to_show(slip);
         assert!(
             steps.is_some_and(|steps| steps <= 12),
