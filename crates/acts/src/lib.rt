@@ -1,4 +1,6 @@
 // What the codes do: the mode by value and the cells lent, and each act one equation with its definition.
+#![tactic(auto)]
+
 ghost use Rattle.std.specs.Prelude.{◌≡◌};
 ghost use Rattle.codes.specs.Proper.{Proper};
 ghost use Rattle.state.specs.State.{captions};

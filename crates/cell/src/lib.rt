@@ -1,4 +1,6 @@
 // A cell and what points at it: rows and columns, the pen byte, the codes a cell may hold, and the cursor with its moves.
+#![tactic(auto)]
+
 pub mod content;
 pub mod moves;
 pub mod pens;
@@ -7,15 +9,15 @@ ghost use Rattle.std.specs.Prelude.{◌≡◌, ◌+◌, ◌≤◌};
 ghost use Rattle.cell.specs.Place.{OnScreen, cell_at, row_at};
 
 // Caption rows are 1 to 15.
-#[derive(Drop)]
+#[derive(Clone, Copy)]
 pub struct Row(pub u8);
 
 // Columns are 1 to 32, counted apart from rows: an address takes one of each, in order.
-#[derive(Drop)]
+#[derive(Clone, Copy)]
 pub struct Column(pub u8);
 
 // A pen taken apart; in a cell and in a cursor it is one byte.
-#[derive(Drop)]
+#[derive(Clone, Copy)]
 pub struct Pen {
     pub colour: u8,
     pub italics: bool,
@@ -23,7 +25,7 @@ pub struct Pen {
     pub flash: bool,
 }
 
-#[derive(Drop)]
+#[derive(Clone, Copy)]
 pub struct Cursor {
     pub row: Row,
     pub column: Column,

@@ -1,4 +1,6 @@
 // What a pair says: the code of a first and a second byte, and the channel that it is for.
+#![tactic(auto)]
+
 pub mod rows;
 
 ghost use Rattle.std.specs.Prelude.{◌≡◌, ◌≤◌};
@@ -10,7 +12,7 @@ use cell::pens::preamble_pen;
 use cell::{Column, Row};
 use rows::preamble_row;
 
-#[derive(Drop)]
+#[derive(Clone, Copy)]
 pub enum Code {
     Unassigned,
     // The second byte itself, 20h to 2Fh.

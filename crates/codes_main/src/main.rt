@@ -1,4 +1,6 @@
 // Writes what every assigned pair says, a line each, both channels, and then how many there are.
+#![tactic(auto)]
+
 mod text;
 
 ghost use Rattle.std.specs.Prelude.{◌≤◌};

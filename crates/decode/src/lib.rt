@@ -1,5 +1,7 @@
 // The decoder: the pair rules over a state by value and lent cells, and the two acts of a desk.
 // A pair of two characters goes straight to `typing::write_two`; only control pairs go through the dispatcher of codes.
+#![tactic(auto)]
+
 ghost use Rattle.std.specs.Prelude.{◌≡◌, ◌≤◌, ◌<◌, length};
 ghost use Rattle.codes.specs.Codes.{code_of};
 ghost use Rattle.state.specs.State.{captions, desk};

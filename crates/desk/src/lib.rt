@@ -1,5 +1,7 @@
 // The viewing desk: open, take, select, back, row and view on lent buffers. No call asks anything of its caller:
 // what is wrong gets the paper's number, and a refusal leaves every lent byte alone.
+#![tactic(auto)]
+
 ghost use Rattle.std.specs.Prelude.{◌≡◌};
 ghost use Rattle.standing.specs.Calls.{outcome, open_of, take_of, select_of, back_of};
 ghost use Rattle.replay.specs.Captions.{caption_decoder};
@@ -9,7 +11,7 @@ ghost use Rattle.desk.specs.Looks.{row_of, view_of, view_number_of};
 use cell::Row;
 
 // What a call gives back.
-#[derive(Drop)]
+#[derive(Clone, Copy)]
 pub enum Answer {
     // The act count, or what was asked.
     Done(u16),

@@ -5,6 +5,8 @@
 //     lend 1983 48000 31744    how much of each buffer the calls from here on are lent
 //     poke tray 2 3            a byte of a buffer: its place and its new value
 //     # words                  nothing
+#![tactic(auto)]
+
 mod line;
 mod show;
 mod song;
@@ -15,7 +17,7 @@ use desk::Answer;
 use libc::STDIN_FILENO;
 
 // How many bytes of each buffer a call is lent.
-#[derive(Drop)]
+#[derive(Clone, Copy)]
 struct Lent {
     desk: usize,
     log: usize,

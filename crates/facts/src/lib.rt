@@ -1,4 +1,6 @@
 // Loops over lent bytes, the smaller of two numbers, and a choice of two: all that is done to bytes without knowing what they mean.
+#![tactic(auto)]
+
 ghost use Rattle.std.specs.Prelude.{◌≡◌, ◌+◌, ◌≤◌, min, length, replicate};
 ghost use Rattle.facts.specs.Choice.{pick};
 ghost use Rattle.facts.specs.Over.{over, part, exchange_of};

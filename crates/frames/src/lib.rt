@@ -1,4 +1,6 @@
 // Frame lines written behind what a reel has already: those of raw bytes, and those of frames that say nothing.
+#![tactic(auto)]
+
 ghost use Rattle.std.specs.Prelude.{◌+◌, ◌≤◌, length};
 ghost use Rattle.wire.specs.Line.{line_of};
 ghost use Rattle.wire.specs.Reel.{reel_of_raw};

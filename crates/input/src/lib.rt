@@ -1,10 +1,12 @@
 // The whole of standard input, read after read, for a program that works on it when it is there.
+#![tactic(auto)]
+
 ghost use Rattle.std.specs.Prelude.{◌≡◌, ◌+◌, ◌≤◌, length};
 
 use libc::STDIN_FILENO;
 
 // How many bytes there are, how many of them the last read brought, and whether it failed.
-#[derive(Drop)]
+#[derive(Clone, Copy)]
 pub struct Got {
     pub n: usize,
     pub came: usize,

@@ -1,4 +1,6 @@
 // One item of a tape: what comes next by the cells of a row, a row's preamble, and the raw bytes of an item behind what a buffer holds already.
+#![tactic(auto)]
+
 mod rows;
 
 ghost use Rattle.std.specs.Prelude.{◌≡◌, [], ◌∷◌, ◌+◌, ◌<◌, ◌≤◌, length};

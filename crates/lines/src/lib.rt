@@ -1,4 +1,6 @@
 // The bytes of the register's lines, printed into a lent buffer behind what stands there already.
+#![tactic(auto)]
+
 ghost use Rattle.std.specs.Prelude.{◌≡◌, [], ◌∷◌, ◌+◌, ◌-◌, ◌≤◌, length};
 ghost use Rattle.facts.specs.Over.{over};
 ghost use Rattle.lines.specs.Span.{lead_of, end_of};

@@ -1,5 +1,7 @@
 // The desk for programs in C and Rust: each exported function is thin over one call, and packs its answer into one number.
 // A slice passes as pointer and length. As in `desk`, nothing is asked of the caller, and a refusal leaves every lent byte alone.
+#![tactic(auto)]
+
 ghost use Rattle.std.specs.Prelude.{◌≡◌};
 ghost use Rattle.wire.specs.Line.{line_at};
 ghost use Rattle.wire.specs.Written.{write_line_of};

@@ -1,5 +1,7 @@
 // One memory of 960 bytes inside the lent cells, at a place: what is written to it, emptied, exchanged and counted.
 // The displayed and the non-displayed memory differ in the place alone.
+#![tactic(auto)]
+
 ghost use Rattle.std.specs.Prelude.{◌≡◌, ◌+◌, ◌*◌, ◌%◌, ◌≤◌, eqb, length};
 ghost use Rattle.facts.specs.Choice.{pick};
 ghost use Rattle.cell.specs.Place.{OnScreen};

@@ -1,4 +1,6 @@
 // The register of a reel in pieces: each call reads on in the reel and prints the next piece into a lent buffer.
+#![tactic(auto)]
+
 ghost use Rattle.std.specs.Prelude.{◌≡◌, ◌+◌, ◌≤◌, ◌<◌, length};
 ghost use Rattle.lines.specs.Line.{Put};
 ghost use Rattle.runs.specs.Frames.{most, next_of};

@@ -1,4 +1,6 @@
 // What puts the style's cursor elsewhere or empties cells at it.
+#![tactic(auto)]
+
 ghost use Rattle.std.specs.Prelude.{◌≡◌, List, ℕ, ◌≤◌};
 ghost use Rattle.cell.specs.Cursor.{Placed};
 ghost use Rattle.state.specs.State.{captions};

@@ -1,4 +1,6 @@
 // The desk as one record of 1,984 bytes: written and read.
+#![tactic(auto)]
+
 ghost use Rattle.std.specs.Prelude.{◌≡◌, ◌+◌, ◌≤◌, length, drop};
 ghost use Rattle.facts.specs.Over.{over};
 ghost use Rattle.state.specs.State.{desk};

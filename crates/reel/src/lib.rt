@@ -1,5 +1,7 @@
 // A reader that walks a lent reel from its first line without copying it.
 // `new`, `next`, `moved` and `line` are thin over a slice and a number, and are proved by hand; `after` and `wire::read_line` do the work and are covered.
+#![tactic(auto)]
+
 ghost use Rattle.std.specs.Prelude.{◌≡◌};
 ghost use Rattle.wire.specs.Line.{line_at};
 ghost use Rattle.wire.specs.Numbers.{reading_of, read_line_of};
@@ -7,7 +9,7 @@ ghost use Rattle.reel.specs.Walk.{after_of};
 
 use wire::Line;
 
-#[derive(Drop)]
+#[derive(Clone, Copy)]
 pub struct Reader<'a> {
     pub reel: &'a [u8],
     pub at: usize,

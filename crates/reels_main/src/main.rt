@@ -1,5 +1,7 @@
 // The registers of many reels, run: the paper's reel, the slips, every kind of bad line, and the 16,000th frame.
 // Copies the text on standard input, but for what stands between two braces: that is a reel, and its register is printed there.
+#![tactic(auto)]
+
 mod note;
 mod register;
 

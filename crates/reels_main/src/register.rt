@@ -9,7 +9,7 @@ use walk::END;
 const SCREENFUL: u64 = 2000;
 
 // Of the pieces so far: how many bytes they have, their sum, and the length of the last one that is not empty.
-#[derive(Drop)]
+#[derive(Clone, Copy)]
 struct Told {
     size: u64,
     sum: u64,

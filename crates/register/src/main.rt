@@ -1,5 +1,7 @@
 // Prints the register of the reel on standard input, and nothing else. All that is printed is worked out in `pieces`, by the definitions of `runs`.
 // A read that fails prints no register, a write that fails ends it; either says why on standard error.
+#![tactic(auto)]
+
 ghost use Rattle.std.specs.Prelude.{false, ◌≡◌, ◌+◌, ◌≤◌, length};
 ghost use Rattle.runs.specs.Register.{register_of};
 
@@ -7,7 +9,7 @@ use libc::STDOUT_FILENO;
 use walk::END;
 
 // How many bytes of the register have gone out, and whether a write failed.
-#[derive(Drop)]
+#[derive(Clone, Copy)]
 struct Sent {
     n: usize,
     failed: bool,

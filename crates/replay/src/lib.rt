@@ -1,4 +1,6 @@
 // Acts of the log replayed on a desk: each well formed act one after the other, and text in runs.
+#![tactic(auto)]
+
 ghost use Rattle.std.specs.Prelude.{◌≡◌, true, ◌&&◌, ◌+◌, ◌-◌, ◌*◌, ◌≤◌, ◌<◌, ltb, length};
 ghost use Rattle.state.specs.State.{desk};
 ghost use Rattle.decode.specs.Sound.{SoundDesk};

@@ -1,4 +1,6 @@
 // Roll-up captions: how they start, and how the window rolls.
+#![tactic(auto)]
+
 ghost use Rattle.std.specs.Prelude.{◌≡◌, ◌≤◌};
 ghost use Rattle.state.specs.State.{captions};
 ghost use Rattle.state.specs.Ranges.{Sound};

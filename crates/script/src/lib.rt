@@ -1,4 +1,6 @@
 // The reel of a script: its steps one by one, up to the first that cannot be kept. The call asks nothing of its caller.
+#![tactic(auto)]
+
 ghost use Rattle.std.specs.Prelude.{◌≡◌, ◌+◌, ◌*◌, ◌/◌, ◌≤◌, ◌<◌, length};
 ghost use Rattle.steps.specs.Take.{blank};
 ghost use Rattle.steps.specs.Hand.{Fit, Goes, Does};
@@ -9,7 +11,7 @@ ghost use Rattle.script.specs.Make.{outcome, make_of};
 use steps::{Hand, cells, cues};
 
 // What a script came to: 0, or what is wrong; how many steps were kept, and the earliest frame that could have been; how many bytes the reel has.
-#[derive(Drop)]
+#[derive(Clone, Copy)]
 pub struct Made {
     pub wrong: u8,
     pub kept: usize,
@@ -18,7 +20,7 @@ pub struct Made {
 }
 
 // The steps that were kept, and what is in hand behind the last.
-#[derive(Drop)]
+#[derive(Clone, Copy)]
 pub struct Reached {
     pub kept: usize,
     pub hand: Hand,

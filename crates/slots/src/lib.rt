@@ -1,4 +1,6 @@
 // The lengths of desk, log and tray, and the records that acts start from: the fresh one, and the tray's slots, kept and read.
+#![tactic(auto)]
+
 ghost use Rattle.std.specs.Prelude.{◌≡◌, ◌≤◌, length};
 ghost use Rattle.state.specs.State.{desk};
 ghost use Rattle.decode.specs.Step.{fresh_desk};

@@ -1,4 +1,6 @@
 // The desk's state: what an act may change besides the cells, the fresh state, and which memory and cursor a style works on.
+#![tactic(auto)]
+
 ghost use Rattle.std.specs.Prelude.{◌≡◌, ◌+◌, ◌≤◌, ◌<◌};
 ghost use Rattle.facts.specs.Choice.{pick};
 ghost use Rattle.cell.specs.Cursor.{Placed};
@@ -16,7 +18,7 @@ pub const POP_ON: u8 = 2;
 pub const PAINT_ON: u8 = 3;
 
 // What the codes change: style, Text, the roll-up mark and depth, and for each style a cursor with its pen.
-#[derive(Drop)]
+#[derive(Clone, Copy)]
 pub struct Mode {
     pub style: u8,
     pub text: u8,
@@ -28,7 +30,7 @@ pub struct Mode {
 }
 
 // The whole state: the mode, and what the pair rules keep of the stream.
-#[derive(Drop)]
+#[derive(Clone, Copy)]
 pub struct State {
     pub acts: u16,
     pub selected: u8,

@@ -1,4 +1,6 @@
 // What a step of a script does: characters are typed into a screen, screens are shown, the display is cleared, frames pass, the channel changes.
+#![tactic(auto)]
+
 pub mod cells;
 pub mod cues;
 
@@ -8,7 +10,7 @@ ghost use Rattle.steps.specs.Hand.{hand, stopped_of, Fit, Does};
 
 // What is in hand between two steps: the channel that is written for, whether a screen is still to be shown, how many frames there are;
 // and what the last step came to, 0 or what is wrong, with the earliest frame that could be kept.
-#[derive(Drop)]
+#[derive(Clone, Copy)]
 pub struct Hand {
     pub channel: u8,
     pub drawn: bool,
@@ -18,7 +20,7 @@ pub struct Hand {
 }
 
 // How a cue comes at its frame: 0 and for how many frames it is held, or what is wrong.
-#[derive(Drop)]
+#[derive(Clone, Copy)]
 pub struct Plan {
     pub wrong: u8,
     pub earliest: usize,

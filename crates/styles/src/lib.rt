@@ -1,4 +1,6 @@
 // What sets the style and empties or exchanges the memories.
+#![tactic(auto)]
+
 ghost use Rattle.std.specs.Prelude.{◌≡◌, List, ℕ};
 ghost use Rattle.state.specs.State.{captions};
 ghost use Rattle.state.specs.Ranges.{Sound};

@@ -1,4 +1,6 @@
 // Pairs of text in a row: while no pair is expected, each goes to the style's cursor alone, and of the state nothing else changes but the count.
+#![tactic(auto)]
+
 ghost use Rattle.std.specs.Prelude.{◌≡◌, true, ℕ, ◌+◌, ◌<◌, length};
 ghost use Rattle.cell.specs.Cursor.{Placed};
 ghost use Rattle.state.specs.State.{desk};

@@ -4,7 +4,7 @@ ghost use Rattle.std.specs.Prelude.{◌≡◌, ◌≤◌, ◌<◌, length};
 use crate::{words, wrong};
 
 // A character's cell code, 0 where line 21 has none such, and where the next one begins.
-#[derive(Drop)]
+#[derive(Clone, Copy)]
 struct Letter {
     code: u8,
     next: usize,

@@ -1,4 +1,6 @@
 // A text is read line by line, and each line made a step of a script, forty bytes, up to the first that is no step: docs/TAPES.md has the format.
+#![tactic(auto)]
+
 mod letters;
 pub mod words;
 pub mod wrong;
@@ -21,7 +23,7 @@ const WAIT: usize = 4;
 const CHANNEL: usize = 5;
 
 // How many steps there are, how many lines were read, and what is wrong with the last of them, 0 for nothing.
-#[derive(Drop)]
+#[derive(Clone, Copy)]
 pub struct Reading {
     pub steps: usize,
     pub lines: usize,

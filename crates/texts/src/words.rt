@@ -5,7 +5,7 @@ ghost use Rattle.std.specs.Prelude.{◌≤◌, length};
 pub const NONE: usize = 100000;
 
 // What a word says, or NONE, and where the word ends.
-#[derive(Drop)]
+#[derive(Clone, Copy)]
 pub struct Word {
     pub value: usize,
     pub end: usize,

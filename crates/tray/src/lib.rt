@@ -1,4 +1,6 @@
 // Acts on desk, log and tray: written to the log, done on a record in place, and a record made anew from the acts that stand.
+#![tactic(auto)]
+
 ghost use Rattle.std.specs.Prelude.{◌≡◌, true, [], ◌∷◌, ◌+◌, ◌*◌, ◌≤◌, length};
 ghost use Rattle.facts.specs.Over.{over};
 ghost use Rattle.record.specs.Layout.{state_of, read_of, record_of};

@@ -1,4 +1,6 @@
 // What is written at the style's cursor.
+#![tactic(auto)]
+
 ghost use Rattle.std.specs.Prelude.{◌≡◌, true, ◌≤◌};
 ghost use Rattle.cell.specs.Pen.{is_pen};
 ghost use Rattle.cell.specs.Cursor.{Placed};

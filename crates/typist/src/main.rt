@@ -1,5 +1,7 @@
 // Prints the reel of the text on standard input, or says on standard error what is wrong with it: docs/TAPES.md has the format.
 // The lines are read in `texts`, and what they come to, and their reel, is worked out in `script`.
+#![tactic(auto)]
+
 mod say;
 
 ghost use Rattle.std.specs.Prelude.{false, ◌≡◌, ◌+◌, ◌≤◌, length};
@@ -13,7 +15,7 @@ use texts::Reading;
 const LONGEST: usize = 262144;
 
 // How many bytes of the reel have gone out, and whether a write failed.
-#[derive(Drop)]
+#[derive(Clone, Copy)]
 struct Sent {
     n: usize,
     failed: bool,

@@ -1,4 +1,6 @@
 // Which records are valid: any bytes at all are tested.
+#![tactic(auto)]
+
 ghost use Rattle.std.specs.Prelude.{◌≡◌, ◌+◌, ◌≤◌, length};
 ghost use Rattle.valid.specs.Valid.{is_cursor, is_valid_state, is_valid};
 ghost use Rattle.valid.specs.Check.{is_row, is_counted, are_rows, is_framed};

@@ -1,5 +1,7 @@
 // One step of the register's walk over a reel: a frame's pair is shown, or the end is printed, behind the first bytes of a lent buffer.
 // The walk goes by value; the cells and the screen of the open stretch are lent, and their types fix their lengths.
+#![tactic(auto)]
+
 ghost use Rattle.std.specs.Prelude.{◌≡◌, ◌+◌, ◌≤◌, ◌<◌, length};
 ghost use Rattle.lines.specs.Line.{Put};
 ghost use Rattle.runs.specs.Frames.{most};
@@ -19,7 +21,7 @@ pub const END: u8 = 2;
 pub const MOST: usize = 16000;
 
 // How many frames are read, since which frame the present screen stands, and the decoder's state.
-#[derive(Drop)]
+#[derive(Clone, Copy)]
 pub struct Walk {
     pub stage: u8,
     pub frame: usize,
@@ -28,7 +30,7 @@ pub struct Walk {
 }
 
 // How many bytes of the buffer are the piece, and where the walk stands then.
-#[derive(Drop)]
+#[derive(Clone, Copy)]
 pub struct Piece {
     pub walk: Walk,
     pub n: usize,

@@ -1,4 +1,6 @@
 // The roll-up window of a memory inside the lent cells: how it rolls, moves and is cut out.
+#![tactic(auto)]
+
 ghost use Rattle.std.specs.Prelude.{◌≡◌, ◌≤◌};
 ghost use Rattle.page.specs.Page.{Holds};
 ghost use Rattle.window.specs.Window.{above_of, lowered_of, roll_of, empty_outside_of, move_of};

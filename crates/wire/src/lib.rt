@@ -1,4 +1,6 @@
 // Bytes as they come on line 21, good or bad, with their low seven bits; frame lines of a reel, read and written.
+#![tactic(auto)]
+
 ghost use Rattle.std.specs.Prelude.{◌≡◌, [], ◌∷◌, ◌<◌};
 ghost use Rattle.wire.specs.Byte.{is_good, low_seven, sent_of};
 ghost use Rattle.wire.specs.Line.{digit_of, hex_of, judge_of, line_at};
@@ -6,7 +8,7 @@ ghost use Rattle.wire.specs.Written.{outcome, write_line_of};
 ghost use Rattle.wire.specs.Numbers.{reading_of, read_line_of, number_of_written, value_of_written};
 
 // What stands at a place of a reel: the two raw bytes of a frame, the reel's end, or what is no frame line.
-#[derive(Drop)]
+#[derive(Clone, Copy)]
 pub enum Line {
     Pair(u8, u8),
     End,
@@ -14,7 +16,7 @@ pub enum Line {
 }
 
 // Whether a frame line was written, or its buffer has a wrong length.
-#[derive(Drop)]
+#[derive(Clone, Copy)]
 pub enum Written {
     Done,
     WrongLength,

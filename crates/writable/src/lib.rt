@@ -1,4 +1,6 @@
 // The tests of a screen that is to be written: whether a record may hold its cells, and whether it is writable.
+#![tactic(auto)]
+
 ghost use Rattle.std.specs.Prelude.{◌≡◌, ◌+◌, ◌≤◌, length};
 ghost use Rattle.tape.specs.Writable.{are_cells, row_pen_of, is_steady, is_cell_of, is_row_writable, is_writable};
 

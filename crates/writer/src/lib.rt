@@ -1,4 +1,6 @@
 // The writer of tapes: the pairs that load a screen and show it pop-on, as raw bytes in a lent buffer. The call asks nothing of its caller.
+#![tactic(auto)]
+
 ghost use Rattle.std.specs.Prelude.{◌≡◌, ◌+◌, ◌*◌, ◌<◌, ◌≤◌, length};
 ghost use Rattle.wire.specs.Written.{outcome};
 ghost use Rattle.tape.specs.Tape.{code_before, item_at, rest_of, row_tape_of, rows_tape_of, tape_of};
@@ -8,7 +10,7 @@ ghost use Rattle.writer.specs.Write.{number_of_tape, value_of_tape, write_tape_o
 use tape::Item;
 
 // What the call gives back.
-#[derive(Drop)]
+#[derive(Clone, Copy)]
 pub enum Answer {
     // How many bytes were written.
     Done(u16),

@@ -10,10 +10,10 @@ use borrow.Author.Rules.{rules}
 use Rattle.facts.proofs.blank.Statement.{statement}
 use Rattle.facts.proofs.blank.Tie as tie
 
-abbrev invariant_loop : tie.invariant-loop
+abbrev invariant_loop : tie.invariant_loop
 invariant_loop out₀ i₀ out i = (i ≤ length out₀) × (length out ≡ length out₀) × (out ≡ replicate i 0 ++ drop i out₀)
 
-abbrev decreases_loop : tie.decreases-loop
+abbrev decreases_loop : tie.decreases_loop
 decreases_loop out₀ i₀ out i = length out₀ - i
 
 loop-again : tie.Need-loop-preserved invariant_loop decreases_loop

@@ -11,10 +11,10 @@ use Rattle.facts.proofs.Over.{over_nil, over_more}
 use Rattle.facts.proofs.copy.Statement.{statement}
 use Rattle.facts.proofs.copy.Tie as tie
 
-abbrev invariant_loop : tie.invariant-loop
+abbrev invariant_loop : tie.invariant_loop
 invariant_loop out₀ src i₀ out i = (i ≤ length src) × (length out ≡ length out₀) × (out ≡ over out₀ 0 (take i src))
 
-abbrev decreases_loop : tie.decreases-loop
+abbrev decreases_loop : tie.decreases_loop
 decreases_loop out₀ src i₀ out i = length src - i
 
 loop-holds : tie.Need-loop-init invariant_loop decreases_loop

@@ -9,11 +9,11 @@ use Rattle.facts.proofs.Halves.{exchange_none, exchange_more}
 use Rattle.facts.proofs.exchange.Statement.{statement}
 use Rattle.facts.proofs.exchange.Tie as tie
 
-abbrev invariant_loop : tie.invariant-loop
+abbrev invariant_loop : tie.invariant_loop
 invariant_loop bytes₀ n i₀ bytes i =
     (i ≤ n) × (length bytes ≡ length bytes₀) × (bytes ≡ over (over bytes₀ 0 (part bytes₀ n i)) n (part bytes₀ 0 i))
 
-abbrev decreases_loop : tie.decreases-loop
+abbrev decreases_loop : tie.decreases_loop
 decreases_loop bytes₀ n i₀ bytes i = n - i
 
 loop-holds : tie.Need-loop-init invariant_loop decreases_loop

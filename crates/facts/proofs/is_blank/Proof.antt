@@ -10,10 +10,10 @@ use Rattle.facts.proofs.Every.{every_more}
 use Rattle.facts.proofs.is_blank.Statement.{statement}
 use Rattle.facts.proofs.is_blank.Tie as tie
 
-abbrev invariant_loop : tie.invariant-loop
+abbrev invariant_loop : tie.invariant_loop
 invariant_loop bytes at n ok₀ i₀ ok i = (i ≤ n) × (ok ≡ every (λ k. eqb (get_or bytes (at + k) 0) 0) i)
 
-abbrev decreases_loop : tie.decreases-loop
+abbrev decreases_loop : tie.decreases_loop
 decreases_loop bytes at n ok₀ i₀ ok i = n - i
 
 loop-again : tie.Need-loop-preserved invariant_loop decreases_loop

@@ -10,10 +10,10 @@ use Rattle.facts.proofs.Every.{every_more}
 use Rattle.facts.proofs.same.Statement.{statement}
 use Rattle.facts.proofs.same.Tie as tie
 
-abbrev invariant_loop : tie.invariant-loop
+abbrev invariant_loop : tie.invariant_loop
 invariant_loop a b n ok₀ i₀ ok i = (i ≤ n) × (ok ≡ every (λ k. eqb (get_or a k 0) (get_or b k 0)) i)
 
-abbrev decreases_loop : tie.decreases-loop
+abbrev decreases_loop : tie.decreases_loop
 decreases_loop a b n ok₀ i₀ ok i = n - i
 
 loop-again : tie.Need-loop-preserved invariant_loop decreases_loop

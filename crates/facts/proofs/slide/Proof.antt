@@ -10,10 +10,10 @@ use Rattle.facts.proofs.Over.{over_nil, over_more, behind_over, length-part}
 use Rattle.facts.proofs.slide.Statement.{statement}
 use Rattle.facts.proofs.slide.Tie as tie
 
-abbrev invariant_loop : tie.invariant-loop
+abbrev invariant_loop : tie.invariant_loop
 invariant_loop bytes₀ to from n j₀ bytes j = (j ≤ n) × (length bytes ≡ length bytes₀) × (bytes ≡ over bytes₀ to (part bytes₀ from j))
 
-abbrev decreases_loop : tie.decreases-loop
+abbrev decreases_loop : tie.decreases_loop
 decreases_loop bytes₀ to from n j₀ bytes j = n - j
 
 loop-holds : tie.Need-loop-init invariant_loop decreases_loop
