@@ -131,9 +131,9 @@ examples =
     ∷ shows (takes (0x94a7 ∷ 0x9420 ∷ 0x91d0 ∷ 0xc849 ∷ [])) ((hidden 1, hi) ∷ []) 2 1 3
     ∷ []
 
-all_hold : all_hold examples ≡ true
+all_hold_lem : all_hold examples ≡ true
 unfolding all_hold holds same filled shown_by owed is_channel is_good low_seven pack_of unpack_of after_mid_row of_preamble flashing after_write_of back_of tab_of preamble_column_of preamble_row_of channel_of without_channel_of mid_row_or_special_of tab_offset_of preamble_code_of channel_one_code_of code_of write_cell_of empty_cell_of empty_from_of empty_rows_of empty_all_of exchanged_of lowered_of roll_of empty_outside_of move_of is_ready cursor_of with_cursor memory_of write_of turned_of attribute_of mid_row_of fon_of bs_of der_of tabbed_of moved_of preamble_of rcl_of rdc_of text_of edm_of enm_of eoc_of opened_of framed_of ru_of cr_of gated act_of cleared_of type_of as_text_of rule_one_of rule_two_of control_of rule_three_of rule_four_of pair_of taken_of fresh_desk
-all_hold = refl
+all_hold_lem = refl
 
 -- the desk's record after the calls of an example is that of the desk it speaks of, and log and tray are those of the acts that stand
 pub shown_by_record : (asks : List Ask) → AllBytes asks → after caption_decoder (opened caption_decoder) (map mine asks) ≡ buffers_of caption_decoder (ruled caption_decoder [] (map mine asks))

@@ -47,6 +47,6 @@ pub blank_at : (d : List ℕ) (at n : ℕ) → blank_of d at n ≡ true → (k :
 unfolding blank_of
 blank_at d at n t k h = eqb-true (get_or d (at + k) 0) 0 (every_at (λ (i : ℕ). eqb (get_or d (at + i) 0) 0) n t k h)
 
-pub blank_of : (d : List ℕ) (at n : ℕ) → ((k : ℕ) → k < n → get_or d (at + k) 0 ≡ 0) → blank_of d at n ≡ true
+pub blank_of_lem : (d : List ℕ) (at n : ℕ) → ((k : ℕ) → k < n → get_or d (at + k) 0 ≡ 0) → blank_of d at n ≡ true
 unfolding blank_of
-blank_of d at n h = every_of _ n (λ k l. eq-eqb (get_or d (at + k) 0) 0 (h k l))
+blank_of_lem d at n h = every_of _ n (λ k l. eq-eqb (get_or d (at + k) 0) 0 (h k l))

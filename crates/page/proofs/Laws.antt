@@ -10,7 +10,7 @@ use lib.ListN.{length, get_or, replicate, length-replicate}
 use lib.Seq.{ext_get_or}
 use Rattle.facts.specs.Over.{over, part}
 use Rattle.facts.proofs.Choice.{below_cases}
-use Rattle.facts.proofs.Every.{same_equal, equal_same, blank_at, blank_of}
+use Rattle.facts.proofs.Every.{same_equal, equal_same, blank_at, blank_of_lem}
 use Rattle.facts.proofs.Over.{length-over, before_over, behind_over, in_over, length-part, part_at}
 use Rattle.cell.specs.declared.Row.{Row}
 use Rattle.cell.specs.declared.Column.{Column}
@@ -145,7 +145,7 @@ is_empty_of_at d memory k e h = blank_at d memory 960 e k h
 
 pub is_empty_of_of : (d : List ℕ) (memory : ℕ) → ((k : ℕ) → k < 960 → get_or d (memory + k) 0 ≡ 0) → is_empty_of d memory ≡ true
 unfolding is_empty_of
-is_empty_of_of d memory h = blank_of d memory 960 h
+is_empty_of_of d memory h = blank_of_lem d memory 960 h
 
 pub same_screen_of_equal : (a b : List ℕ) → length a ≡ 960 → length b ≡ 960 → same_screen_of a b ≡ true → a ≡ b
 unfolding same_screen_of

@@ -10,7 +10,7 @@ use lib.ListN.{length, get_or, set, drop, replicate, length-append, get_or-appen
 use lib.Seq.{get_or_at, ext_get_or}
 use Rattle.facts.specs.Over.{over, part}
 use Rattle.facts.proofs.Choice.{below_cases}
-use Rattle.facts.proofs.Every.{same_equal, equal_same, blank_of}
+use Rattle.facts.proofs.Every.{same_equal, equal_same, blank_of_lem}
 use Rattle.facts.proofs.Over.{drop-over, over_snoc, length-part, part_at}
 use Rattle.page.specs.Page.{filled_from, count_row_of}
 use Rattle.page.proofs.LawsOfCounts.{filled_from-blank, filled_from-drop}
@@ -62,7 +62,7 @@ counts_of_zeros n =
     let size = length-counts_of cells in
     ext_get_or 0 (counts_of cells) (replicate 30 0) size
     (λ k h.
-    counts_of_at cells k (omega arith) ∙ filled_from-blank cells (k * 64) 32 (blank_of cells (k * 64) 64 (λ i l. zeros_at n (k * 64 + i))) ∙ sym (zeros_at 30 k))
+    counts_of_at cells k (omega arith) ∙ filled_from-blank cells (k * 64) 32 (blank_of_lem cells (k * 64) 64 (λ i l. zeros_at n (k * 64 + i))) ∙ sym (zeros_at 30 k))
 
 -- in the bytes of a record, whose cells begin at byte 64
 count_of : (bs : List ℕ) (k : ℕ) → k < 30 → get_or (counts_of (drop 64 bs)) k 0 ≡ filled_from bs (64 + k * 64) 32

@@ -9,7 +9,7 @@ use lib.ListN.{length, get_or}
 use borrow.Author.Tests.{eqb-true, eq-eqb, ne_eqb}
 use Rattle.facts.specs.Every.{blank_of}
 use Rattle.facts.proofs.Choice.{below_cases, and_left, and_right, and_both, implies_at, implies_of, same_test}
-use Rattle.facts.proofs.Every.{every_at, every_of, blank_at, blank_of}
+use Rattle.facts.proofs.Every.{every_at, every_of, blank_at, blank_of_lem}
 use Rattle.cell.proofs.Laws.{empty_is_cell, is_cell_empty}
 use Rattle.page.specs.Page.{filled_from}
 use Rattle.page.proofs.LawsOfCounts.{filled_from-blank}
@@ -79,7 +79,7 @@ module _ (bs : List ℕ) where
   blank_cells : (at n a m : ℕ) → at ≡ 64 + a * 2 → n ≡ m * 2 → ((k : ℕ) → a ≤ k → k < a + m → (is_cell_at bs 64 k ≡ true) × (code_at bs 64 k ≡ 0))
       → blank_of bs at n ≡ true
   blank_cells at n a m e f empty =
-      blank_of bs at n
+      blank_of_lem bs at n
       (λ i l.
       let cell = empty ((at + i - 64) / 2) (omega arith) (omega arith) in
       empty_byte (at + i) (omega arith) cell.0 cell.1)

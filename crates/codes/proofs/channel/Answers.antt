@@ -1,0 +1,14 @@
+-- `channel` meets its contract. Assumes nothing.
+use mathlib.Core.Path.{refl}
+use native.Mathlib.Omega.{arith}
+use borrow.Author.Tests.{le-leb, lt-leb}
+use Rattle.codes.specs.Codes.{channel_of}
+use Rattle.codes.proofs.channel.Goals as goal
+
+pub returns-then-a-le23 : goal.returns-then-a-le23
+unfolding channel_of
+returns-then-a-le23 c = simp (le-leb _ _ c.if-a-le23.true) (refl, omega arith, omega arith)
+
+pub returns : goal.returns
+unfolding channel_of
+returns c = simp (lt-leb _ _ c.if-a-le23.false) (refl, omega arith, omega arith)

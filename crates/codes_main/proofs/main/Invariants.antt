@@ -1,0 +1,10 @@
+-- `main` is safe and ends: the first byte goes up to 1Fh, and each counts at most 96 lines. Assumes nothing.
+use Prim.Native.Nat.{◌-◌, ◌*◌, ◌≤◌}
+use borrow.Author.Rules.{rules}
+use Rattle.codes_main.proofs.main.Given as goal
+
+abbrev pub invariant-loop-a : goal.invariant-loop-a
+invariant-loop-a l = (n ≤ (a - 0x10) * 96) × (0x10 ≤ a) × (a ≤ 0x20)
+
+abbrev pub decreases-loop-a : goal.decreases-loop-a
+decreases-loop-a l = 0x20 - a

@@ -1,0 +1,17 @@
+-- `read_all` meets its contract. Assumes nothing.
+use mathlib.Core.Path.{◌≡◌}
+use native.Mathlib.Omega.{arith}
+use Prim.Native.Nat.{◌+◌, ◌-◌, ◌≤◌}
+use lib.Dec.{ltb}
+use lib.ListN.{length}
+use borrow.Author.Rules.{rules}
+use borrow.Author.Tests.{ltb-true}
+use Rattle.facts.proofs.Choice.{and_left}
+use Rattle.input.proofs.read_all.Given as goal
+
+abbrev pub invariant-loop-got : goal.invariant-loop-got
+invariant-loop-got l = (length l.into ≡ length l.initial.into) × (l.got.n ≤ length l.into)
+
+-- each turn but the last brings a byte at least
+abbrev pub decreases-loop-got : goal.decreases-loop-got
+decreases-loop-got l = (length l.into - l.got.n) + l.got.came

@@ -1,0 +1,16 @@
+-- `end` meets its contract. Assumes nothing.
+use mathlib.Core.Path.{◌≡◌, sym, ◌∙◌}
+use Prim.Native.Nat.{ℕ, ◌-◌, ◌*◌, ◌≤◌, ◌<◌}
+use native.Mathlib.Omega.{arith}
+use borrow.Author.Rules.{rules}
+use Rattle.facts.proofs.Every.{blank_at}
+use Rattle.facts.proofs.Choice.{below_cases}
+use Rattle.lines.specs.Span.{code_at}
+use Rattle.lines.proofs.Printed.{end_of_only, end_of_none}
+use Rattle.lines.proofs.end.Given as goal
+
+abbrev pub invariant-loop-k : goal.invariant-loop-k
+invariant-loop-k l = (l.k ≤ 32) × ((j : ℕ) → l.k ≤ j → j < 32 → code_at l.screen l.at j ≡ 0)
+
+abbrev pub decreases-loop-k : goal.decreases-loop-k
+decreases-loop-k l = l.k

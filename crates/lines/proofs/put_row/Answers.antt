@@ -1,0 +1,13 @@
+-- `put_row` meets its contract. Assumes nothing.
+use mathlib.Core.List.{[], ◌∷◌}
+use mathlib.Core.Path.{ap, ◌∙◌}
+use borrow.Author.Rules.{rules}
+use Rattle.facts.specs.Over.{over}
+use Rattle.lines.specs.Line.{row_of}
+use Rattle.lines.proofs.put_row.Goals as goal
+
+pub returns : goal.returns
+unfolding row_of
+returns c =
+    let a = c.args in
+    c.put.ensures ∙ ap (over a.out.now a.n) (λ i. c.digit.ensures i ∷ c.digit-2.ensures i ∷ 0x20 ∷ [])

@@ -1,0 +1,7 @@
+-- `loikrasun_back` meets its contract. Assumes nothing.
+use borrow.Author.Rules.{rules}
+use Rattle.loikrasun.proofs.Laws.{ended_packed}
+use Rattle.loikrasun.proofs.loikrasun_back.Goals as goal
+
+pub returns : goal.returns
+returns c = ended_packed c.pack_answer.ensures c.back.ensures

@@ -1,0 +1,26 @@
+-- `loikrasun_view` meets its contract. Assumes nothing.
+use mathlib.Core.Path.{ap, ◌∙◌}
+use Prim.Native.Nat.{ℕ}
+use native.Mathlib.Omega.{arith}
+use lib.ListN.{length}
+use borrow.Author.Tests.{eq-eqb, ne_eqb}
+use borrow.Author.Rules.{rules}
+use Rattle.facts.specs.Over.{over}
+use Rattle.loikrasun.specs.Packed.{packed_of, filled, viewed_of}
+use Rattle.loikrasun.proofs.Laws.{length_view_of}
+use Rattle.loikrasun.proofs.loikrasun_view.Goals as goal
+
+pub copy-requires : goal.copy-requires
+copy-requires c = omega (arith, ap length c.view.ensures, length_view_of c.args.desk.now)
+
+pub returns-then-out-eq960 : goal.returns-then-out-eq960
+unfolding viewed_of
+returns-then-out-eq960 c =
+    let out = c.args.out.now in
+    let number = c.pack_answer.ensures ∙ ap packed_of c.view_number.ensures in
+    let shown = c.copy.ensures ∙ ap (over out 0) c.view.ensures in
+    rw (eq-eqb _ _ c.if-out-eq960.true) (λ i. filled (number i) (shown i))
+
+pub returns : goal.returns
+unfolding viewed_of
+returns c = rw (ne_eqb _ _ c.if-out-eq960.false) (ap (λ (n : ℕ). filled n c.args.out.now) c.pack.ensures)

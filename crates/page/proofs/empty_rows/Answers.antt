@@ -1,0 +1,8 @@
+-- `empty_rows` meets its contract. Assumes nothing.
+use borrow.Author.Rules.{rules}
+use Rattle.page.specs.Page.{empty_rows_of}
+use Rattle.page.proofs.empty_rows.Goals as goal
+
+pub returns : goal.returns
+unfolding empty_rows_of
+returns c = c.wipe.ensures

@@ -1,0 +1,16 @@
+-- `write_counts` meets its contract. Assumes nothing.
+use mathlib.Core.Path.{◌≡◌, ap, sym, ◌∙◌}
+use Prim.Native.Nat.{ℕ, ◌-◌, ◌≤◌}
+use native.Mathlib.Omega.{arith}
+use lib.ListN.{length, drop}
+use borrow.Author.Rules.{rules}
+use Rattle.facts.specs.Over.{over}
+use Rattle.facts.proofs.Over.{over_nil}
+use Rattle.record.proofs.LawsOfCounts.{counts_to, counts_more, counts_of-rows}
+use Rattle.record.proofs.write_counts.Given as goal
+
+abbrev pub invariant-loop-r : goal.invariant-loop-r
+invariant-loop-r l = (l.r ≤ 30) × (length l.bytes ≡ length l.initial.bytes) × (l.bytes ≡ over l.initial.bytes 19 (counts_to (drop 64 l.initial.bytes) l.r))
+
+abbrev pub decreases-loop-r : goal.decreases-loop-r
+decreases-loop-r l = 30 - l.r

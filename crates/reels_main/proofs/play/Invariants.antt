@@ -1,0 +1,9 @@
+-- `play` is safe and ends: each text starts behind the reel before it. Assumes nothing.
+use Rattle.std.proofs.Common.{◌-◌, length, rules}
+use Rattle.reels_main.proofs.play.Given as goal
+
+abbrev pub invariant-loop-at : goal.invariant-loop-at
+invariant-loop-at l = Unit {0}
+
+abbrev pub decreases-loop-at : goal.decreases-loop-at
+decreases-loop-at l = length l.script - l.at

@@ -1,0 +1,48 @@
+-- `print` meets its contract. Assumes nothing.
+use mathlib.Core.Path.{◌≡◌, sym}
+use native.Mathlib.Omega.{arith}
+use lib.ListN.{length}
+use lib.Seq.{length-take-le}
+use borrow.Author.Rules.{rules}
+use Rattle.walk.specs.Walk.{place, steps_of}
+use Rattle.register.proofs.Laws.{Printing, printing_start, printing_more, printing_less, printing_end, goes_on, is_done}
+use Rattle.register.proofs.print.Goals as goal
+
+pub loop-w-init : goal.loop-w-init
+loop-w-init c = printing_start c.args.reel.now c.start-w.ensures
+
+pub next_piece-p-requires : goal.next_piece-p-requires
+next_piece-p-requires c = c.loop-w.invariant.fit
+
+pub slice_bounds-out-end : goal.slice_bounds-out-end
+slice_bounds-out-end c = let e = c.next_piece-p.ensures in omega (arith, e.1, e.2)
+
+pub slice_bounds-send-end : goal.slice_bounds-send-end
+slice_bounds-send-end c = let e = c.next_piece-p.ensures in sym (length-take-le _ _ (omega (arith, e.1, e.2)))
+
+pub send-sent-requires : goal.send-sent-requires
+send-sent-requires c =
+    let l = c.loop-w in
+    let small = l.invariant.small in
+    let e = c.next_piece-p.ensures in
+    let on = goes_on l.w.stage l.sent.failed c.loop-w-test.true in
+    let m = length-take-le c.next_piece-p.result.n c.next_piece-p.new.out (omega (arith, e.1, e.2)) in
+    omega (arith, m, e.1, printing_less _ _ l.invariant on.0 e.0)
+
+pub loop-w-smaller : goal.loop-w-smaller
+loop-w-smaller c =
+    let l = c.loop-w in
+    printing_less _ _ l.invariant (goes_on l.w.stage l.sent.failed c.loop-w-test.true).0 c.next_piece-p.ensures.0
+
+pub loop-w-preserved : goal.loop-w-preserved
+loop-w-preserved c =
+    let l = c.loop-w in
+    let e = c.next_piece-p.ensures in
+    let on = goes_on l.w.stage l.sent.failed c.loop-w-test.true in
+    let m = length-take-le c.next_piece-p.result.n c.next_piece-p.new.out (omega (arith, e.1, e.2)) in
+    printing_more _ _ l.invariant on.0 e.0 on.1 e.1 (rw m at c.send-sent.ensures)
+
+pub returns : goal.returns
+returns c =
+    let l = c.loop-w in
+    λ whole. printing_end _ l.invariant (is_done l.w.stage l.sent.failed c.loop-w-test.false whole) whole

@@ -1,0 +1,81 @@
+-- `give` meets its contract. Assumes nothing.
+use mathlib.Core.Bool.{true}
+use mathlib.Core.List.{List, [], ◌∷◌}
+use mathlib.Core.Path.{◌≡◌, ap, sym, subst, ◌∙◌}
+use native.Mathlib.Omega.{arith}
+use Prim.Native.Nat.{ℕ, ◌+◌, ◌*◌, ◌<◌, ◌≤◌}
+use lib.ListN.{length}
+use borrow.Rule.Slice.PartMut.{mid_len}
+use borrow.Author.Rules.{rules}
+use Rattle.facts.specs.Over.{over}
+use Rattle.facts.proofs.Over.{length-over}
+use Rattle.state.specs.declared.State.{State}
+use Rattle.state.specs.State.{Desk, desk}
+use Rattle.record.specs.Layout.{read_of, record_of}
+use Rattle.valid.proofs.Laws.{is_valid-length}
+use Rattle.standing.specs.Acts.{act_of, are_formed}
+use Rattle.standing.specs.Calls.{keep_of, replay_of}
+use Rattle.standing.proofs.Within.{logged_formed, logged_replayed}
+use Rattle.tray.specs.Given.{after_of}
+use Rattle.replay.specs.Captions.{count_of, caption_decoder}
+use Rattle.replay.proofs.Laws.{step_acts}
+use Rattle.tray.proofs.Laws.{cells_of_record}
+use Rattle.tray.proofs.give.Goals as goal
+
+-- the act that was logged is the one that is done
+replayed : (s : tie.Start) {log : List ℕ} → log ≡ log_of s → replay_of caption_decoder (read_of s.args.desk.now) log s.args.state.acts 1 ≡ after s
+replayed s e =
+    let a = s.args in
+    let d = read_of a.desk.now in
+    ap (λ (l : List ℕ). replay_of caption_decoder d l a.state.acts 1) e
+    ∙ logged_replayed a.log.now a.state.acts a.kind a.first a.second (fits s) caption_decoder d
+
+pub write_act-requires : goal.write_act-requires
+write_act-requires c =
+    let room : c.args.state.acts < 16000 = subst (λ (x : State). x.acts < 16000) (sym c.requires.1) c.requires.0.room in
+    let fits : c.args.state.acts * 3 + 3 ≤ length c.args.log.now = omega (arith, room, c.requires.0.log_size) in
+    fits
+
+pub replay_in_place-next-requires : goal.replay_in_place-next-requires
+replay_in_place-next-requires c =
+    let room : c.args.state.acts < 16000 = subst (λ (x : State). x.acts < 16000) (sym c.requires.1) c.requires.0.room in
+    let fits : c.args.state.acts * 3 + 3 ≤ length c.args.log.now = omega (arith, room, c.requires.0.log_size) in
+    let a = c.args in
+    let e = c.write_act.ensures in
+    let size : length c.write_act.new.log ≡ length a.log.now =
+    ap length e ∙ length-over a.log.now (a.state.acts * 3) (a.kind ∷ a.first ∷ a.second ∷ []) in
+    let formed = logged_formed a.log.now a.state.acts a.kind a.first a.second fits c.requires.2 in
+    let less = room in
+    (c.requires.0.valid, c.requires.1, omega arith, omega (arith, size, fits), omega arith, subst (λ (l : List ℕ). are_formed l a.state.acts 1 ≡ true) (sym e) formed)
+
+pub slice_bounds-keep-end : goal.slice_bounds-keep-end
+slice_bounds-keep-end c =
+    omega (arith, is_valid-length c.args.desk.now c.requires.0.valid)
+
+pub keep-requires : goal.keep-requires
+keep-requires c =
+    let a = c.args in
+    let next = ap (λ (d : Desk). d.state.acts) (replayed c c.write_act.ensures) in
+    let acts : c.replay_in_place-next.result.acts ≡ count_of (read_of a.desk.now) + 1 =
+    ap (λ (x : State). x.acts) c.replay_in_place-next.ensures.1 ∙ next ∙ step_acts (read_of a.desk.now) (act_of a.kind a.first a.second) in
+    let less = c.requires.0.room in
+    let size = is_valid-length a.desk.now c.requires.0.valid in
+    let m = mid_len 64 1984 c.replay_in_place-next.new.desk (omega arith) in
+    (omega (arith, acts), omega (arith, acts, less), omega (arith, c.requires.0.tray_size), m)
+
+pub returns : goal.returns
+returns c =
+    let after : Desk = let a = c.args in after_of a.desk.now a.kind a.first a.second in
+    let a = c.args in
+    let e = replayed c c.write_act.ensures in
+    let q = c.replay_in_place-next in
+    let next : q.result ≡ after.state = q.ensures.1 ∙ ap (λ (d : Desk). d.state) e in
+    let decoded : q.new.0 ≡ record_of after = q.ensures.0 ∙ ap record_of e in
+    let size = is_valid-length a.desk.now c.requires.0.valid in
+    let cells = cells_of_record after {bs = q.new.0} (omega arith) decoded in
+    record {
+      counted = ap (λ (x : State). x.acts) next;
+      decoded = decoded;
+      logged = c.write_act.ensures ∙ ap (λ (x : State). over a.log.now (x.acts * 3) (a.kind ∷ a.first ∷ a.second ∷ [])) c.requires.1;
+      kept = c.keep.ensures ∙ (λ i. keep_of caption_decoder a.tray.now (next i).acts (record_of (desk (next i) (cells i))));
+    }

@@ -1,0 +1,16 @@
+-- `write_act` meets its contract. Assumes nothing.
+use Prim.Native.Nat.{◌*◌}
+use native.Mathlib.Omega.{arith}
+use lib.ListN.{length-set}
+use borrow.Author.Rules.{rules}
+use Rattle.facts.proofs.Over.{over-three}
+use Rattle.tray.proofs.write_act.Goals as goal
+
+pub bounds-log-at-2 : goal.bounds-log-at-2
+bounds-log-at-2 c = simp length-set (omega arith)
+
+pub bounds-log-at-3 : goal.bounds-log-at-3
+bounds-log-at-3 c = simp length-set (omega arith)
+
+pub returns : goal.returns
+returns c = over-three c.args.log.now (c.args.acts * 3) c.args.kind c.args.first c.args.second

@@ -1,0 +1,24 @@
+-- `is_framed` meets its contract. Assumes nothing.
+use mathlib.Core.Bool.{◌&&◌}
+use mathlib.Core.Path.{ap, ◌∙◌}
+use Prim.Native.Nat.{ℕ, ◌*◌}
+use borrow.Author.Rules.{rules}
+use borrow.Author.Tests.{eq-eqb, ne_eqb}
+use Rattle.facts.specs.Every.{blank_of}
+use Rattle.valid.specs.Check.{is_framed}
+use Rattle.valid.proofs.is_framed.Goals as goal
+
+pub rows_above-above-requires : goal.rows_above-above-requires
+rows_above-above-requires c = c.requires.2 c.if-mark-eq1.true
+
+pub returns-then-mark-eq1 : goal.returns-then-mark-eq1
+unfolding is_framed
+returns-then-mark-eq1 c =
+    let a = c.args in
+    let bs = a.bytes.now in
+    let top = c.is_blank.ensures ∙ ap (λ (k : ℕ). blank_of bs 64 (k * 64)) c.rows_above-above.ensures in
+    rw (eq-eqb a.mark 1 c.if-mark-eq1.true) (λ i. top i && c.is_blank-then-mark-eq1.ensures i)
+
+pub returns : goal.returns
+unfolding is_framed
+returns c = rw (ne_eqb c.args.mark 1 c.if-mark-eq1.false)

@@ -1,0 +1,18 @@
+-- `is_row` meets its contract: an empty row is 32 cells that are allowed, and any other is tested cell by cell. Assumes nothing.
+use mathlib.Core.Path.{◌≡◌, ap, sym, ◌∙◌}
+use mathlib.Core.Bool.{◌&&◌}
+use Prim.Native.Nat.{◌-◌, ◌≤◌}
+use native.Mathlib.Omega.{arith}
+use borrow.Author.Rules.{rules}
+use Rattle.facts.specs.Every.{every}
+use Rattle.facts.proofs.Every.{every_more}
+use Rattle.valid.specs.Valid.{is_cell_at}
+use Rattle.valid.specs.Check.{is_row}
+use Rattle.valid.proofs.Rows.{blank-is_row}
+use Rattle.valid.proofs.is_row.Given as goal
+
+abbrev pub invariant-loop-j : goal.invariant-loop-j
+invariant-loop-j l = (l.j ≤ 32) × (l.ok ≡ every (is_cell_at l.bytes l.at) l.j)
+
+abbrev pub decreases-loop-j : goal.decreases-loop-j
+decreases-loop-j l = 32 - l.j

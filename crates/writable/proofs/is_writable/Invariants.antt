@@ -1,0 +1,17 @@
+-- `is_writable` meets its contract: the rows are tested one behind the other. Assumes nothing.
+use mathlib.Core.Path.{◌≡◌, ap, ◌∙◌}
+use mathlib.Core.Bool.{◌&&◌}
+use Prim.Native.Nat.{ℕ, ◌-◌, ◌*◌, ◌≤◌}
+use native.Mathlib.Omega.{arith}
+use borrow.Author.Rules.{rules}
+use Rattle.facts.specs.Every.{every}
+use Rattle.facts.proofs.Every.{every_more}
+use Rattle.tape.specs.Writable.{is_row_writable}
+use Rattle.writable.proofs.LawsOfChecks.{rows-joined}
+use Rattle.writable.proofs.is_writable.Given as goal
+
+abbrev pub invariant-loop-row : goal.invariant-loop-row
+invariant-loop-row l = (l.row ≤ 15) × (l.ok ≡ every (λ r. is_row_writable l.memory (r * 64)) l.row)
+
+abbrev pub decreases-loop-row : goal.decreases-loop-row
+decreases-loop-row l = 15 - l.row

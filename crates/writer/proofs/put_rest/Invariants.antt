@@ -1,0 +1,16 @@
+-- `put_rest` meets its contract. Assumes nothing.
+use Prim.Native.Nat.{◌+◌, ◌-◌}
+use native.Mathlib.Omega.{arith}
+use borrow.Author.Rules.{rules}
+use Rattle.tape.specs.Item.{bytes_of}
+use Rattle.tape.specs.Tape.{rest_of}
+use Rattle.tape.proofs.LawsOfSizes.{rest_end}
+use Rattle.items.proofs.LawsOfLaid.{Rest, rest_start, rest_room, rest_turn, rest_stop}
+use Rattle.writer.proofs.Laws.{items_more}
+use Rattle.writer.proofs.put_rest.Given as goal
+
+abbrev pub invariant-loop-k : goal.invariant-loop-k
+invariant-loop-k l = Rest l.initial.out l.n (rest_of l.channel l.memory l.at l.end l.from) l.out l.m (rest_of l.channel l.memory l.at l.end l.k)
+
+abbrev pub decreases-loop-k : goal.decreases-loop-k
+decreases-loop-k l = l.end - l.k

@@ -1,0 +1,17 @@
+-- `put_rows` meets its contract. Assumes nothing.
+use mathlib.Core.Path.{◌≡◌}
+use Prim.Native.Nat.{◌-◌, ◌≤◌}
+use native.Mathlib.Omega.{arith}
+use lib.ListN.{length}
+use borrow.Author.Rules.{rules}
+use Rattle.tape.specs.Tape.{row_tape_of, rows_tape_of}
+use Rattle.items.specs.Laid.{Laid}
+use Rattle.items.proofs.LawsOfLaid.{laid_none, laid_size, room_rest}
+use Rattle.writer.proofs.Laws.{rows_none, rows_more, rows-room}
+use Rattle.writer.proofs.put_rows.Given as goal
+
+abbrev pub invariant-loop-row : goal.invariant-loop-row
+invariant-loop-row l = (l.row ≤ 15) × Laid l.initial.out l.n (rows_tape_of l.channel l.memory l.row) l.out l.m
+
+abbrev pub decreases-loop-row : goal.decreases-loop-row
+decreases-loop-row l = 15 - l.row
