@@ -4,7 +4,7 @@ use Rattle.codes.proofs.control.Goals as goal
 
 pub returns-in_default : goal.returns-in_default
 returns-in_default c =
-    let late = c.in_default.rest in
+    let late = c.in_default.in_default-own.rest in
     let early = late.0.0.0.0.0.0.0 in
     simp (
       ne_eqb _ _ early.0.0.0.0.0.0.1,
