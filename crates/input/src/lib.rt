@@ -3,7 +3,8 @@
 
 ghost use Rattle.std.specs.Prelude.{◌≡◌, ◌+◌, ◌≤◌, length};
 
-use libc::STDIN_FILENO;
+use std::io;
+use std::io::Read;
 
 // How many bytes there are, how many of them the last read brought, and whether it failed.
 #[derive(Clone, Copy)]
@@ -13,35 +14,41 @@ pub struct Got {
     pub failed: bool,
 }
 
+// Says what failed, and why, on what is standard error in a program.
+pub fn fail(err: &impl Print, what: &str, error: io::Error) {
+    let _ = println!(err; "{what}: {error}");
+}
+
 // One read, behind the first `n` bytes. At the end of the input none come. Where it fails, `what` is said with the reason.
-fn read_more(into: &mut [u8], n: usize, what: &[u8]) -> Got
+fn read_more<R: Read, E: Print>(from: &mut R, err: &E, into: &mut [u8], n: usize, what: &str) -> Got
     requires { n ≤ length into.old }
     ensures { (result.n ≤ length into.old) × (result.n ≡ n + result.came) }
 {
-    let got = libc::read(STDIN_FILENO, &mut into[n..]);
-    if got < 0 {
-        os::fail(what);
-        return Got {
-            n,
-            came: 0,
-            failed: true,
-        };
-    }
-    let came = io::count(got, &into[n..]);
-    Got {
-        n: n + came,
-        came,
-        failed: false,
+    match from.read(&mut into[n..]) {
+        Ok(came) => Got {
+            n: n + came,
+            came,
+            failed: false,
+        },
+        Err(error) => {
+            fail(err, what, error);
+            Got {
+                n,
+                came: 0,
+                failed: true,
+            }
+        }
     }
 }
 
 // Read after read, until the input ends, the buffer is full or a read fails.
-pub fn read_all(into: &mut [u8], what: &[u8]) -> Got
+pub fn read_all<R: Input, E: Print>(rt: &R, err: &E, into: &mut [u8], what: &str) -> Got
     ensures { result.n ≤ length into.old }
 {
-    let mut got = read_more(into, 0, what);
+    let mut from = rt.reader();
+    let mut got = read_more(&mut from, err, into, 0, what);
     while (0 < got.came) & (got.n < into.len()) {
-        got = read_more(into, got.n, what);
+        got = read_more(&mut from, err, into, got.n, what);
     }
     got
 }

@@ -5,7 +5,6 @@
 ghost use Rattle.std.specs.Prelude.{false, ◌≡◌, ◌+◌, ◌≤◌, length};
 ghost use Rattle.runs.specs.Register.{register_of};
 
-use libc::STDOUT_FILENO;
 use walk::END;
 
 // How many bytes of the register have gone out, and whether a write failed.
@@ -16,25 +15,27 @@ struct Sent {
 }
 
 // One piece more: what goes out is counted here and nowhere else. A register has at most 16,002 pieces of 65,536 bytes.
-fn send(sent: Sent, piece: &[u8]) -> Sent
+fn send<O: Print, E: Print>(to: &O, err: &E, sent: Sent, piece: &[u8]) -> Sent
     requires { sent.n + length piece.now ≤ 1048707072 }
     ensures { (result.n ≤ sent.n + length piece.now) × (result.failed ≡ false → result.n ≡ sent.n + length piece.now) }
 {
-    if io::write_all(STDOUT_FILENO, piece) {
-        return Sent {
+    match to.write_all(piece) {
+        Ok(()) => Sent {
             n: sent.n + piece.len(),
             failed: false,
-        };
-    }
-    os::fail(b"cannot write the register");
-    Sent {
-        n: sent.n,
-        failed: true,
+        },
+        Err(error) => {
+            input::fail(err, "cannot write the register", error);
+            Sent {
+                n: sent.n,
+                failed: true,
+            }
+        }
     }
 }
 
 // Piece after piece, until all is given or a write fails. As many bytes go out as the register has.
-fn print(reel: &[u8]) -> Sent
+fn print<O: Print, E: Print>(to: &O, err: &E, reel: &[u8]) -> Sent
     ensures { result.failed ≡ false → result.n ≡ length (register_of reel.now) }
 {
     let mut cells = [0u8; 1920];
@@ -49,17 +50,17 @@ fn print(reel: &[u8]) -> Sent
         let p = pieces::next_piece(w, reel, &mut cells, &mut held, &mut out);
         let n = p.n;
         w = p.walk;
-        sent = send(sent, &out[..n]);
+        sent = send(to, err, sent, &out[..n]);
     }
     sent
 }
 
 // 16,000 lines have 80,000 bytes: one byte more is refused, so no more is read.
-fn main() {
+fn main(rt: HostRuntime) {
     let mut reel = [0u8; 80001];
-    let got = input::read_all(&mut reel, b"cannot read the reel");
+    let got = input::read_all(&rt, &rt.stderr(), &mut reel, "cannot read the reel");
     let n = got.n;
     if !got.failed {
-        print(&reel[..n]);
+        print(&rt.stdout(), &rt.stderr(), &reel[..n]);
     }
 }

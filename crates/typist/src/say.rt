@@ -1,19 +1,23 @@
 // What is wrong, in words, on standard error.
-use libc::STDERR_FILENO;
 use texts::words;
 
-fn say(words: &[u8]) {
-    io::write_all(STDERR_FILENO, words);
+// A write that fails is passed over, and the next one is tried.
+fn say(err: &impl Print, words: &[u8]) {
+    let _ = err.write_all(words);
+}
+
+fn say_number(err: &impl Print, n: u64) {
+    let _ = print!(err; "{n}");
 }
 
 // The words of a number: each line of the table is two digits 0-9 A-F and its words.
-fn say_entry(table: &[u8], number: usize) {
+fn say_entry(err: &impl Print, table: &[u8], number: usize) {
     let mut at = 0;
     while at + 2 < table.len() {
         let from = at + 2;
         let end = words::find(table, from, b'\n');
         if words::hex(table[at], table[at + 1]) == number {
-            say(&table[from..end]);
+            say(err, &table[from..end]);
             return;
         }
         at = end + 1;
@@ -21,8 +25,9 @@ fn say_entry(table: &[u8], number: usize) {
 }
 
 // What is wrong, and the earliest frame where a frame is too early, else 0.
-pub fn tell(number: u8, earliest: u64) {
+pub fn tell(err: &impl Print, number: u8, earliest: u64) {
     say_entry(
+        err,
         b"02the text goes past column 32\n\
           03a reel has at most 16000 frames\n\
           06a line begins with a row, or is show, clear, wait or channel\n\
@@ -43,20 +48,20 @@ pub fn tell(number: u8, earliest: u64) {
         number as usize,
     );
     if 0 < earliest {
-        io::print_decimal(STDERR_FILENO, earliest);
+        say_number(err, earliest);
     }
-    say(b"\n");
+    say(err, b"\n");
 }
 
-pub fn tell_line(line: u64, number: u8, earliest: u64) {
-    say(b"line ");
-    io::print_decimal(STDERR_FILENO, line);
-    say(b": ");
-    tell(number, earliest);
+pub fn tell_line(err: &impl Print, line: u64, number: u8, earliest: u64) {
+    say(err, b"line ");
+    say_number(err, line);
+    say(err, b": ");
+    tell(err, number, earliest);
 }
 
 // The screen that is shown at the end.
-pub fn tell_end(number: u8) {
-    say(b"at the end: ");
-    tell(number, 0);
+pub fn tell_end(err: &impl Print, number: u8) {
+    say(err, b"at the end: ");
+    tell(err, number, 0);
 }

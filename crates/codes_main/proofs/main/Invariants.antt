@@ -4,7 +4,7 @@ use borrow.Author.Rules.{rules}
 use Rattle.codes_main.proofs.main.Given as goal
 
 abbrev pub invariant-loop-a : goal.invariant-loop-a
-invariant-loop-a l = (n ≤ (a - 0x10) * 96) × (0x10 ≤ a) × (a ≤ 0x20)
+invariant-loop-a l = (l.n ≤ (l.a - 0x10) * 96) × (0x10 ≤ l.a) × (l.a ≤ 0x20)
 
 abbrev pub decreases-loop-a : goal.decreases-loop-a
-decreases-loop-a l = 0x20 - a
+decreases-loop-a l = 0x20 - l.a

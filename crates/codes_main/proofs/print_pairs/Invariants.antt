@@ -4,7 +4,7 @@ use borrow.Author.Rules.{rules}
 use Rattle.codes_main.proofs.print_pairs.Given as goal
 
 abbrev pub invariant-loop-b : goal.invariant-loop-b
-invariant-loop-b l = (l.n + 0x20 ≤ l.b) × (0x20 ≤ l.b) × (l.b ≤ 0x80)
+invariant-loop-b g l = (l.n + 0x20 ≤ l.b) × (0x20 ≤ l.b) × (l.b ≤ 0x80)
 
 abbrev pub decreases-loop-b : goal.decreases-loop-b
-decreases-loop-b l = 0x80 - l.b
+decreases-loop-b g l = 0x80 - l.b

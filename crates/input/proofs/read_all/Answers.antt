@@ -10,6 +10,6 @@ use Rattle.facts.proofs.Choice.{and_left}
 use Rattle.input.proofs.read_all.Goals as goal
 
 pub loop-got-smaller : goal.loop-got-smaller
-loop-got-smaller c =
+loop-got-smaller g c =
     let l = c.loop-got in
     omega (arith, ltb-true 0 l.got.came (and_left (ltb 0 l.got.came) (ltb l.got.n (length l.into)) c.loop-got-test.true))

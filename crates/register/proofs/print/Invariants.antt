@@ -9,7 +9,7 @@ use Rattle.register.proofs.Laws.{Printing, printing_start, printing_more, printi
 use Rattle.register.proofs.print.Given as goal
 
 abbrev pub invariant-loop-w : goal.invariant-loop-w
-invariant-loop-w l = Printing l.reel (place l.w l.cells l.held) l.sent.n l.sent.failed
+invariant-loop-w g l = Printing l.reel (place l.w l.cells l.held) l.sent.n l.sent.failed
 
 abbrev pub decreases-loop-w : goal.decreases-loop-w
-decreases-loop-w l = steps_of l.w
+decreases-loop-w g l = steps_of l.w

@@ -3,4 +3,4 @@ use borrow.Author.Rules.{rules}
 use Rattle.register.proofs.send.Goals as goal
 
 pub returns : goal.returns
-returns c = (search rules, λ e. cc)
+returns g c = (search rules, λ e. cc)

@@ -8,23 +8,23 @@ use Rattle.typist.proofs.Laws.{Left, make_leaves, left_whole, left_none}
 use Rattle.typist.proofs.print.Goals as goal
 
 pub slice_bounds-reel-end : goal.slice_bounds-reel-end
-slice_bounds-reel-end c =
+slice_bounds-reel-end g c =
     let made : Left c.args.script.now c.make-made.result.wrong c.make-made.result.n c.make-made.new.out = make_leaves _ _ (length-replicate {A = ℕ} 80000 0) c.make-made.ensures in
     made.within
 
 pub slice_bounds-send_reel-end : goal.slice_bounds-send_reel-end
-slice_bounds-send_reel-end c =
+slice_bounds-send_reel-end g c =
     let made : Left c.args.script.now c.make-made.result.wrong c.make-made.result.n c.make-made.new.out = make_leaves _ _ (length-replicate {A = ℕ} 80000 0) c.make-made.ensures in
     sym (length-take-le _ _ made.within)
 
 pub returns-then-made-reading : goal.returns-then-made-reading
-returns-then-made-reading c =
+returns-then-made-reading g c =
     let made : Left c.args.script.now c.make-made.result.wrong c.make-made.result.n c.make-made.new.out = make_leaves _ _ (length-replicate {A = ℕ} 80000 0) c.make-made.ensures in
     let l = made in
     let line = c.args.reading.wrong in
     λ whole. c.send_reel.ensures whole ∙ (length-take-le _ _ l.within ∙ left_whole _ line l c.if-made-reading.true)
 
 pub returns : goal.returns
-returns c =
+returns g c =
     let line = c.args.reading.wrong in
     λ whole. left_none _ line (make_leaves _ _ (length-replicate {A = ℕ} 80000 0) c.make-made.ensures) c.if-made-reading.false

@@ -3,4 +3,4 @@ use borrow.Author.Rules.{rules}
 use Rattle.typist.proofs.send_reel.Goals as goal
 
 pub returns : goal.returns
-returns c = λ e. cc
+returns g c = λ e. cc

@@ -3,5 +3,5 @@ use borrow.Author.Rules.{rules}
 use Rattle.codes_main.proofs.text.print_code.Goals as goal
 
 pub print_mid_row-requires : goal.print_mid_row-requires
-print_mid_row-requires c =
+print_mid_row-requires g c =
     rw c.in-MidRow.is at c.requires

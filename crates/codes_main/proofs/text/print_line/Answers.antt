@@ -5,4 +5,4 @@ use Rattle.codes.proofs.Laws.{code_of_proper}
 use Rattle.codes_main.proofs.text.print_line.Goals as goal
 
 pub print_code-requires : goal.print_code-requires
-print_code-requires c = rw c.classify.ensures (code_of_proper _ _ (omega arith) (omega arith) (omega arith) (omega arith))
+print_code-requires g c = rw c.classify.ensures (code_of_proper _ _ (omega arith) (omega arith) (omega arith) (omega arith))
