@@ -17,12 +17,12 @@ pub returns-then-not-is_formed : goal.returns-then-not-is_formed
 returns-then-not-is_formed c =
     let a = c.args in
     are_formed_broken a.log.now a.from a.count c.loop-n.n c.loop-n-test.true
-    (sym c.is_formed.ensures ∙ not-true c.is_formed.result c.if-not-is_formed.true)
+    (sym c.is_formed.ensures ∙ c.if-not-is_formed.true)
 
 pub loop-n-preserved : goal.loop-n-preserved
 loop-n-preserved c =
     let a = c.args in
-    (search rules, are_formed_more a.log.now a.from c.loop-n.n c.loop-n.invariant.1 (sym (not-false c.is_formed.result c.if-not-is_formed.false) ∙ c.is_formed.ensures))
+    (search rules, are_formed_more a.log.now a.from c.loop-n.n c.loop-n.invariant.1 (sym c.if-not-is_formed.false ∙ c.is_formed.ensures))
 
 pub returns : goal.returns
 returns c =

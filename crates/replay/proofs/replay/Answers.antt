@@ -1,12 +1,14 @@
 -- `replay` meets its contract. Assumes nothing.
 use mathlib.Core.Path.{◌≡◌, ap, sym, subst, ◌∙◌}
 use mathlib.Core.List.{List}
+use mathlib.Core.Bool.{true}
 use Prim.Native.Nat.{ℕ, ◌+◌, ◌-◌, ◌*◌, ◌≤◌, ◌<◌}
 use native.Mathlib.Omega.{arith}
-use lib.ListN.{length}
+use lib.ListN.{length, get_or}
 use borrow.Author.Rules.{rules}
 use Rattle.standing.proofs.Within.{replay_none, replay_more, replay_keeps_sound}
 use Rattle.standing.specs.Calls.{replay_of}
+use Rattle.standing.specs.Acts.{are_formed}
 use Rattle.decode.specs.Sound.{SoundDesk}
 use Rattle.state.specs.declared.State.{State}
 use Rattle.state.specs.State.{Desk, desk}
@@ -16,15 +18,12 @@ use Rattle.replay.proofs.LawsOfReplay.{replay_join}
 use Rattle.replay.proofs.replay.Goals as goal
 
 -- a desk that n of the acts lead to is sound and has counted them
-sound_at : (l : tie.At-loop invariant_loop decreases_loop) (n : ℕ) (s : State) {cells : List ℕ}
-    → let a = l.before.before.before.args in
-    n ≤ a.count → desk s cells ≡ replay_of caption_decoder (desk a.start a.cells.now) a.log.now a.from n
-    → SoundDesk (desk s cells) × (s.acts ≡ a.start.acts + n)
-sound_at l n s h e =
-    let b = l.before.before.before in
-    let a = b.args in
-    let kept = replay_keeps_sound caption_decoder caption_decoder_lawful (desk a.start a.cells.now) a.log.now a.from a.count b.requires.0 b.requires.1
-    (λ i. omega (arith, l.before.shared-slice-known.given i)) b.requires.4 n h in
+sound_at : (start : State) (cells log : List ℕ) (from count : ℕ)
+    → SoundDesk (desk start cells) → start.acts + count ≤ 16000 → ((i : ℕ) → get_or log i 0 < 256) → are_formed log from count ≡ true
+    → (n : ℕ) (s : State) {after : List ℕ} → n ≤ count → desk s after ≡ replay_of caption_decoder (desk start cells) log from n
+    → SoundDesk (desk s after) × (s.acts ≡ start.acts + n)
+sound_at start cells log from count sound room bytes formed n s h e =
+    let kept = replay_keeps_sound caption_decoder caption_decoder_lawful (desk start cells) log from count sound room bytes formed n h in
     (subst SoundDesk (sym e) kept.0, ap (λ (d : Desk). d.state.acts) e ∙ kept.1)
 
 pub loop-n-init : goal.loop-n-init
@@ -36,7 +35,7 @@ pub step-state-requires : goal.step-state-requires
 step-state-requires c =
     let more = c.loop-n-test.true in
     let room : c.args.start.acts + c.args.count ≤ 16000 = c.requires.1 in
-    let sound = sound_at c c.loop-n.n c.loop-n.state c.loop-n.invariant.0 c.loop-n.invariant.2 in
+    let sound = sound_at c.args.start c.args.cells.now c.args.log.now c.args.from c.args.count c.requires.0 c.requires.1 (λ i. omega (arith, c.type_inv.log i)) c.requires.4 c.loop-n.n c.loop-n.state c.loop-n.invariant.0 c.loop-n.invariant.2 in
     let acts = sound.1 in
     (sound.0, omega (arith, acts, more, room))
 
@@ -48,7 +47,7 @@ type_run-state-requires c =
     let whole : (a.from + a.count) * 3 ≤ length a.log.now = c.requires.2 in
     let most : a.from + a.count ≤ 16000 = c.requires.3 in
     let e = replay_more caption_decoder (desk a.start a.cells.now) a.log.now a.from c.loop-n.n c.loop-n.invariant.2 c.step-state.ensures in
-    let sound = sound_at c (c.loop-n.n + 1) c.step-state.result (omega arith) e in
+    let sound = sound_at a.start a.cells.now a.log.now a.from a.count c.requires.0 c.requires.1 (λ i. omega (arith, c.type_inv.log i)) c.requires.4 (c.loop-n.n + 1) c.step-state.result (omega arith) e in
     let acts = sound.1 in
     (sound.0, sym c.is_none_expected.ensures ∙ c.if-is_none_expected.true, omega arith, omega arith, omega arith)
 

@@ -101,9 +101,9 @@ pub returns : goal.returns
 returns c =
     let a = c.args in
     let n = c.loop-at.n in
-    let e = c.type-inv.ensures in
+    let e = c.typed.ensures in
     let acts = ap (λ (x : State). x.acts) e in
-    let same : n ≡ c.type-inv.result.acts - a.start.acts = omega arith in (
+    let same : n ≡ c.typed.result.acts - a.start.acts = omega arith in (
       omega arith,
       omega arith,
       ap (λ (x : State). desk x c.loop-at.cells) e ∙ c.loop-at.invariant.3 ∙ ap (replay_of caption_decoder (desk a.start a.cells.now) a.log.now a.from) same,
