@@ -14,7 +14,6 @@ mod song;
 ghost use Rattle.std.specs.Prelude.{◌≤◌};
 
 use desk::Answer;
-use libc::STDIN_FILENO;
 
 // How many bytes of each buffer a call is lent.
 #[derive(Clone, Copy)]
@@ -86,24 +85,38 @@ fn answer(line: &[u8], desk: &mut [u8], log: &mut [u8], tray: &mut [u8]) -> Answ
 }
 
 // The call of a line, on the bytes that it is lent.
-fn call(line: &[u8], desk: &mut [u8], log: &mut [u8], tray: &mut [u8]) {
+fn call(out: &impl Print, line: &[u8], desk: &mut [u8], log: &mut [u8], tray: &mut [u8]) {
     if line::letter(line, 0) == b'v' {
-        show::print_view(desk);
+        show::print_view(out, desk);
     } else {
-        show::print_answer(answer(line, desk, log, tray));
+        show::print_answer(out, answer(line, desk, log, tray));
     }
 }
 
-fn lend_call(line: &[u8], lent: Lent, desk: &mut [u8], log: &mut [u8], tray: &mut [u8]) {
+fn lend_call(
+    out: &impl Print,
+    line: &[u8],
+    lent: Lent,
+    desk: &mut [u8],
+    log: &mut [u8],
+    tray: &mut [u8],
+) {
     let d = least(lent.desk, desk.len());
     let l = least(lent.log, log.len());
     let t = least(lent.tray, tray.len());
-    call(line, &mut desk[0..d], &mut log[0..l], &mut tray[0..t]);
-    show::print_sums(desk, log, tray);
+    call(out, line, &mut desk[0..d], &mut log[0..l], &mut tray[0..t]);
+    show::print_sums(out, desk, log, tray);
 }
 
 // Gives what the next line's call is lent.
-fn play_line(line: &[u8], lent: Lent, desk: &mut [u8], log: &mut [u8], tray: &mut [u8]) -> Lent {
+fn play_line(
+    out: &impl Print,
+    line: &[u8],
+    lent: Lent,
+    desk: &mut [u8],
+    log: &mut [u8],
+    tray: &mut [u8],
+) -> Lent {
     match line::letter(line, 0) {
         b'#' => lent,
         b'l' => lend(line),
@@ -112,13 +125,13 @@ fn play_line(line: &[u8], lent: Lent, desk: &mut [u8], log: &mut [u8], tray: &mu
             lent
         }
         _ => {
-            lend_call(line, lent, desk, log, tray);
+            lend_call(out, line, lent, desk, log, tray);
             lent
         }
     }
 }
 
-fn play(script: &[u8], desk: &mut [u8], log: &mut [u8], tray: &mut [u8]) {
+fn play(out: &impl Print, script: &[u8], desk: &mut [u8], log: &mut [u8], tray: &mut [u8]) {
     let mut lent = Lent {
         desk: 1984,
         log: 48000,
@@ -128,19 +141,19 @@ fn play(script: &[u8], desk: &mut [u8], log: &mut [u8], tray: &mut [u8]) {
     while at < script.len() {
         let end = line::find(script, at, b'\n');
         let line = &script[at..end];
-        show::print(line);
-        lent = play_line(line, lent, desk, log, tray);
-        show::print_end();
+        show::print(out, line);
+        lent = play_line(out, line, lent, desk, log, tray);
+        show::print_end(out);
         at = end + 1;
     }
 }
 
 // Each buffer has a byte more than the desk asks for, so that a call can be lent one too many.
-fn main() {
-    let mut script = io::large_buffer();
-    let n = io::read_full(STDIN_FILENO, &mut script);
+fn main(rt: HostRuntime) {
+    let mut script = [0u8; 65536];
+    let n = input::read_all(&rt, &rt.stderr(), &mut script, "cannot read the script").n;
     let mut desk = [0u8; 1985];
     let mut log = [0u8; 48001];
     let mut tray = [0u8; 31745];
-    play(&script[..n], &mut desk, &mut log, &mut tray);
+    play(&rt, &script[..n], &mut desk, &mut log, &mut tray);
 }

@@ -3,14 +3,14 @@ ghost use Rattle.std.specs.Prelude.{◌≡◌, ◌<◌};
 ghost use Rattle.desk.specs.Numbers.{number_of, value_of};
 
 use desk::Answer;
-use libc::STDOUT_FILENO;
 
-pub fn print(words: &[u8]) {
-    io::write_all(STDOUT_FILENO, words);
+// A write that fails is passed over, and the next one is tried.
+pub fn print(out: &impl Print, words: &[u8]) {
+    let _ = out.write_all(words);
 }
 
-pub fn print_end() {
-    print(b"\n");
+pub fn print_end(out: &impl Print) {
+    print(out, b"\n");
 }
 
 fn number(answer: Answer) -> u64
@@ -59,35 +59,36 @@ fn wide(byte: u8) -> u64
     byte as u64
 }
 
-fn print_number(n: u64) {
-    print(b" ");
-    io::print_decimal(STDOUT_FILENO, n);
+fn print_number(out: &impl Print, n: u64) {
+    print(out, b" ");
+    let _ = print!(out; "{n}");
 }
 
-fn print_sum(bytes: &[u8]) {
-    print(b" ");
-    io::print_hex(STDOUT_FILENO, sum(bytes), 8);
+fn print_sum(out: &impl Print, bytes: &[u8]) {
+    print(out, b" ");
+    let s = sum(bytes);
+    let _ = print!(out; "{s:08x}");
 }
 
 // Number and value.
-pub fn print_answer(answer: Answer) {
-    print(b" |");
-    print_number(number(answer));
-    print_number(value(answer));
+pub fn print_answer(out: &impl Print, answer: Answer) {
+    print(out, b" |");
+    print_number(out, number(answer));
+    print_number(out, value(answer));
 }
 
 // Number, length and sum of the part.
-pub fn print_view(desk: &[u8]) {
-    print(b" |");
-    print_number(number(desk::view_number(desk)));
+pub fn print_view(out: &impl Print, desk: &[u8]) {
+    print(out, b" |");
+    print_number(out, number(desk::view_number(desk)));
     let part = desk::view(desk);
-    print_number(part.len() as u64);
-    print_sum(part);
+    print_number(out, part.len() as u64);
+    print_sum(out, part);
 }
 
-pub fn print_sums(desk: &[u8], log: &[u8], tray: &[u8]) {
-    print(b" |");
-    print_sum(desk);
-    print_sum(log);
-    print_sum(tray);
+pub fn print_sums(out: &impl Print, desk: &[u8], log: &[u8], tray: &[u8]) {
+    print(out, b" |");
+    print_sum(out, desk);
+    print_sum(out, log);
+    print_sum(out, tray);
 }

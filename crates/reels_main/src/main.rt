@@ -7,11 +7,9 @@ mod register;
 
 ghost use Rattle.std.specs.Prelude.{◌≤◌, length};
 
-use libc::STDIN_FILENO;
-
 // The register of the reel behind a brace. Behind the last reel there is none, and both places are the end.
 // Of a reel 16,000 lines and one byte are kept: what follows them changes no register.
-fn print_reel(text: &[u8], from: usize, to: usize)
+fn print_reel(out: &impl Print, text: &[u8], from: usize, to: usize)
     requires { (from ≤ to) × (to ≤ length text.now) }
 {
     if from == to {
@@ -19,22 +17,22 @@ fn print_reel(text: &[u8], from: usize, to: usize)
     }
     let mut reel = [0u8; 80001];
     let n = note::write(&mut reel, text, from + 1, to);
-    register::print_register(&reel[0..n]);
+    register::print_register(out, &reel[0..n]);
 }
 
-fn play(script: &[u8]) {
+fn play(out: &impl Print, script: &[u8]) {
     let mut at = 0;
     while at < script.len() {
         let open = note::find(script, at, script.len(), b'{');
-        register::print(&script[at..open]);
+        register::print(out, &script[at..open]);
         let close = note::find(script, open, script.len(), b'}');
-        print_reel(script, open, close);
+        print_reel(out, script, open, close);
         at = close + 1;
     }
 }
 
-fn main() {
-    let mut script = io::large_buffer();
-    let n = io::read_full(STDIN_FILENO, &mut script);
-    play(&script[..n]);
+fn main(rt: HostRuntime) {
+    let mut script = [0u8; 65536];
+    let n = input::read_all(&rt, &rt.stderr(), &mut script, "cannot read the script").n;
+    play(&rt, &script[..n]);
 }

@@ -2,7 +2,6 @@
 ghost use Rattle.std.specs.Prelude.{◌<◌, ◌≤◌, length};
 
 use crate::note::wide;
-use libc::STDOUT_FILENO;
 use walk::END;
 
 // The longest register that is printed whole.
@@ -16,8 +15,9 @@ struct Told {
     last: usize,
 }
 
-pub fn print(words: &[u8]) {
-    io::write_all(STDOUT_FILENO, words);
+// A write that fails is passed over, and the next one is tried.
+pub fn print(to: &impl Print, words: &[u8]) {
+    let _ = to.write_all(words);
 }
 
 // The sum of a text is the number that its bytes are the digits of, in base 256, modulo the prime 4,294,967,291. A piece goes on
@@ -83,24 +83,24 @@ fn last_line(text: &[u8]) -> usize
 }
 
 // A register no longer than a screenful is one piece, and stands in the buffer whole.
-fn print_told(size: u64, sum: u64, last: &[u8]) {
+fn print_told(to: &impl Print, size: u64, sum: u64, last: &[u8]) {
     if size <= SCREENFUL {
-        print(last);
+        print(to, last);
         return;
     }
-    io::print_decimal(STDOUT_FILENO, size);
-    print(b" bytes, sum ");
-    io::print_hex(STDOUT_FILENO, sum, 8);
-    print(b", last line:\n");
+    let _ = print!(to; "{size}");
+    print(to, b" bytes, sum ");
+    let _ = print!(to; "{sum:08x}");
+    print(to, b", last line:\n");
     let at = last_line(last);
-    print(&last[at..]);
+    print(to, &last[at..]);
 }
 
-pub fn print_register(reel: &[u8]) {
+pub fn print_register(to: &impl Print, reel: &[u8]) {
     let mut cells = [0u8; 1920];
     let mut held = [0u8; 960];
     let mut out = [0u8; 65536];
     let t = tell(reel, &mut cells, &mut held, &mut out);
     let n = t.last;
-    print_told(t.size, t.sum, &out[0..n]);
+    print_told(to, t.size, t.sum, &out[0..n]);
 }

@@ -6,8 +6,8 @@ use borrow.Author.Rules.{rules}
 use Rattle.desk_main.proofs.play.Given as goal
 
 abbrev pub invariant-loop-at : goal.invariant-loop-at
-invariant-loop-at l =
+invariant-loop-at g l =
     (length l.desk ≡ length l.initial.desk) × (length l.log ≡ length l.initial.log) × (length l.tray ≡ length l.initial.tray)
 
 abbrev pub decreases-loop-at : goal.decreases-loop-at
-decreases-loop-at l = length l.script - l.at
+decreases-loop-at g l = length l.script - l.at
