@@ -40,6 +40,7 @@ reel_end (x ∷ s) (suc i) h = reel_end s i (omega arith)
 
 -- a frame of nothing, and the others
 pub nulls_more : (n : ℕ) → 0 < n → reel_of_raw (nulls_of n) ≡ line_of 0x80 0x80 ++ reel_of_raw (nulls_of (n - 1))
+nulls_more zero h = elim h [ ]
 nulls_more (suc n) h = let e : n ≡ suc n - 1 = omega arith in ap (λ (k : ℕ). line_of 0x80 0x80 ++ reel_of_raw (nulls_of k)) e
 
 -- Raw bytes that are held, part by part.

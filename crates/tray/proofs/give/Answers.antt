@@ -23,12 +23,11 @@ use Rattle.tray.proofs.Laws.{cells_of_record}
 use Rattle.tray.proofs.give.Goals as goal
 
 -- the act that was logged is the one that is done
-replayed : (s : tie.Start) {log : List ℕ} → log ≡ log_of s → replay_of caption_decoder (read_of s.args.desk.now) log s.args.state.acts 1 ≡ after s
-replayed s e =
-    let a = s.args in
-    let d = read_of a.desk.now in
-    ap (λ (l : List ℕ). replay_of caption_decoder d l a.state.acts 1) e
-    ∙ logged_replayed a.log.now a.state.acts a.kind a.first a.second (fits s) caption_decoder d
+replayed : (d log : List ℕ) (acts kind first second : ℕ) {l : List ℕ} → acts * 3 + 3 ≤ length log → l ≡ over log (acts * 3) (kind ∷ first ∷ second ∷ [])
+    → replay_of caption_decoder (read_of d) l acts 1 ≡ after_of d kind first second
+replayed d log acts kind first second fits e =
+    ap (λ (l : List ℕ). replay_of caption_decoder (read_of d) l acts 1) e
+    ∙ logged_replayed log acts kind first second fits caption_decoder (read_of d)
 
 pub write_act-requires : goal.write_act-requires
 write_act-requires c =
@@ -54,8 +53,10 @@ slice_bounds-keep-end c =
 
 pub keep-requires : goal.keep-requires
 keep-requires c =
+    let room : c.args.state.acts < 16000 = subst (λ (x : State). x.acts < 16000) (sym c.requires.1) c.requires.0.room in
+    let fits : c.args.state.acts * 3 + 3 ≤ length c.args.log.now = omega (arith, room, c.requires.0.log_size) in
     let a = c.args in
-    let next = ap (λ (d : Desk). d.state.acts) (replayed c c.write_act.ensures) in
+    let next = ap (λ (d : Desk). d.state.acts) (replayed a.desk.now a.log.now a.state.acts a.kind a.first a.second fits c.write_act.ensures) in
     let acts : c.replay_in_place-next.result.acts ≡ count_of (read_of a.desk.now) + 1 =
     ap (λ (x : State). x.acts) c.replay_in_place-next.ensures.1 ∙ next ∙ step_acts (read_of a.desk.now) (act_of a.kind a.first a.second) in
     let less = c.requires.0.room in
@@ -65,14 +66,16 @@ keep-requires c =
 
 pub returns : goal.returns
 returns c =
+    let room : c.args.state.acts < 16000 = subst (λ (x : State). x.acts < 16000) (sym c.requires.1) c.requires.0.room in
+    let fits : c.args.state.acts * 3 + 3 ≤ length c.args.log.now = omega (arith, room, c.requires.0.log_size) in
     let after : Desk = let a = c.args in after_of a.desk.now a.kind a.first a.second in
     let a = c.args in
-    let e = replayed c c.write_act.ensures in
+    let e = replayed a.desk.now a.log.now a.state.acts a.kind a.first a.second fits c.write_act.ensures in
     let q = c.replay_in_place-next in
     let next : q.result ≡ after.state = q.ensures.1 ∙ ap (λ (d : Desk). d.state) e in
-    let decoded : q.new.0 ≡ record_of after = q.ensures.0 ∙ ap record_of e in
+    let decoded : q.new.desk ≡ record_of after = q.ensures.0 ∙ ap record_of e in
     let size = is_valid-length a.desk.now c.requires.0.valid in
-    let cells = cells_of_record after {bs = q.new.0} (omega arith) decoded in
+    let cells = cells_of_record after {bs = q.new.desk} (omega arith) decoded in
     record {
       counted = ap (λ (x : State). x.acts) next;
       decoded = decoded;

@@ -12,8 +12,6 @@ use Rattle.writer.proofs.Laws.{lead_inside, row_none, row_some}
 use Rattle.writer.proofs.put_row.Goals as goal
 
 -- the row in two parts: its preamble, and its cells
- : 
-
 
 pub returns-then-end-eq0 : goal.returns-then-end-eq0
 returns-then-end-eq0 c =
