@@ -12,9 +12,9 @@ put_row-wrong-requires c =
 pub returns-then-wrong-eq0 : goal.returns-then-wrong-eq0
 returns-then-wrong-eq0 c =
     let a = c.args in (
-      fit_same a.hand c.type-inv.ensures c.requires.0,
+      fit_same a.hand c.typed.ensures c.requires.0,
       does_put a.hand a.screen.now a.row a.column a.pen a.codes.now c.requires.1 (sym c.is_place.ensures ∙ c.if-is_place.true) c.copy.ensures c.put_row-wrong.ensures
-          c.if-wrong-eq0.true (search rules) c.copy-then-wrong-eq0.ensures c.type-inv.ensures,
+          c.if-wrong-eq0.true (search rules) c.copy-then-wrong-eq0.ensures c.typed.ensures,
     )
 
 pub returns-then-is_place : goal.returns-then-is_place
