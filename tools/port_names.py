@@ -3,7 +3,7 @@
 
 usage: python3 tools/port_names.py [--check]      at the top of the repository; --check only prints what would fall together
 
-The rules are those of the kit's CONTRACT_STYLE.md, "Names": everything but types and modules is in snake case; a dash joins two names, as in
+The rules are those of the kit's guide to contracts, "Names": everything but types and modules is in snake case; a dash joins two names, as in
 `length-over`, and a plain word is added with `_`, as in `row_of_low`. Functions of src/, exported names, strings, inputs and outputs keep theirs.
 """
 
