@@ -8,13 +8,18 @@ use lib.Dec.{eqb}
 use lib.ListN.{length, length-take}
 use Rattle.facts.specs.Choice.{pick}
 use Rattle.facts.proofs.Choice.{pick_cases}
+use Rattle.wire.specs.Written as written
 use Rattle.valid.specs.Valid.{is_valid}
 use Rattle.standing.specs.Calls.{Given, gives, Outcome, outcome}
 use Rattle.desk.specs.Looks.{view_of, view_number_of}
-use Rattle.loikrasun.specs.Packed.{packed_of, given_view, ended, ended_of, filled, viewed_of}
+use Rattle.loikrasun.specs.Packed.{packed_of, given_view, ended, ended_of, filled, written_of, viewed_of}
 
 pub ended_packed : {g : Given} {d l t : List ℕ} {r : ℕ} {o : Outcome} → r ≡ packed_of g → outcome g d l t ≡ o → ended r d l t ≡ ended_of o
 ended_packed e f = cc
+
+-- the same of a call that writes into one lent buffer
+pub written_packed : {n v r : ℕ} {out : List ℕ} {o : written.Outcome} → r ≡ packed_of (gives n v) → written.outcome n v out ≡ o → filled r out ≡ written_of o
+written_packed e f = cc
 
 pub length_view_of : (d : List ℕ) → length (view_of d) ≤ 960
 unfolding view_of

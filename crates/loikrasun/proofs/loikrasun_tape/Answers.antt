@@ -1,6 +1,6 @@
 -- `loikrasun_tape` meets its contract. Assumes nothing.
-use borrow.Author.Rules.{rules}
+use Rattle.loikrasun.proofs.Laws.{written_packed}
 use Rattle.loikrasun.proofs.loikrasun_tape.Goals as goal
 
 pub returns : goal.returns
-returns c = cc
+returns c = written_packed c.pack_tape.ensures c.write_tape.ensures
