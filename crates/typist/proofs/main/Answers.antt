@@ -13,12 +13,12 @@ slice_bounds-read_all-end c = sym (length-replicate {A = ℕ} 262145 0)
 pub slice_bounds-text-end : goal.slice_bounds-text-end
 slice_bounds-text-end c =
     let g = c.read_all-got in
-    subst (λ (k : ℕ). g.result.n ≤ k) (sym g.auto.0) g.ensures
+    subst (λ (k : ℕ). g.result.n ≤ k) (sym g.auto.into) g.ensures
 
 pub slice_bounds-play-end : goal.slice_bounds-play-end
 slice_bounds-play-end c =
     let g = c.read_all-got in
-    sym (length-take-le _ _ (subst (λ (k : ℕ). g.result.n ≤ k) (sym g.auto.0) g.ensures))
+    sym (length-take-le _ _ (subst (λ (k : ℕ). g.result.n ≤ k) (sym g.auto.into) g.ensures))
 
 pub slice_bounds-play-end-2 : goal.slice_bounds-play-end-2
 slice_bounds-play-end-2 c = sym (length-replicate {A = ℕ} 327680 0)
