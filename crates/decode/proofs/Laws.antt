@@ -14,7 +14,7 @@ use Rattle.codes.specs.Codes.{code_of, channel_of}
 use Rattle.codes.specs.Assigned.{is_unassigned, is_expected}
 use Rattle.codes.proofs.Laws.{code_of_proper, channel_of_high, is_assigned_code_of, none_is_expected, is_expected_of}
 use Rattle.state.specs.declared.State.{State}
-use Rattle.state.specs.State.{Captions, captions, Desk, desk}
+use Rattle.state.specs.State.{Captions, Desk, desk}
 use Rattle.state.specs.Style.{is_ready}
 use Rattle.state.specs.Ranges.{Sound}
 use Rattle.state.proofs.Laws.{is_ready_live, fresh_sound}

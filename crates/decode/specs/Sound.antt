@@ -1,7 +1,7 @@
 -- What every act keeps of a desk, as facts that proofs use: a valid record has these, and no more is asked of it.
 -- Paper 01, "Record, log, tray": the line "Valid".
 -- Assumes nothing.
-use Rattle.std.specs.Prelude.{ℕ, ◌≤◌, ◌≡◌, true}
+use Rattle.std.specs.Prelude.{◌≤◌, ◌≡◌, true}
 use Rattle.codes.specs.Assigned.{is_expected}
 use Rattle.state.specs.State.{Desk}
 use Rattle.state.specs.Ranges.{Sound}

@@ -2,7 +2,7 @@
 use mathlib.Core.Path.{◌≡◌, ap, sym, ◌∙◌}
 use mathlib.Core.List.{List}
 use Prim.Native.Nat.{ℕ}
-use Rattle.standing.specs.Calls.{Given, Outcome, outcome, open_of, take_of, select_of, back_of}
+use Rattle.standing.specs.Calls.{Outcome, outcome, open_of, take_of, select_of, back_of}
 use Rattle.replay.specs.Captions.{caption_decoder}
 use Rattle.desk.specs.declared.Answer.{Answer}
 use Rattle.desk.specs.Numbers.{given}

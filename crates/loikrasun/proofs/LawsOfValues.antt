@@ -7,7 +7,6 @@ use native.Mathlib.Omega.{arith}
 use lib.Dec.{eqb, leb, ltb}
 use lib.ListN.{length, get_or, drop}
 use borrow.Author.Tests.{ltb-true}
-use Rattle.facts.specs.Choice.{pick}
 use Rattle.facts.proofs.Choice.{pick_cases}
 use Rattle.wire.specs.declared.Line.{Line}
 use Rattle.wire.specs.declared.Line.TheVariants.{Pair, End, Bad}

@@ -11,7 +11,7 @@ use Rattle.facts.proofs.Over.{length-over, before_over, behind_over, in_over, le
 use Rattle.cell.specs.declared.Row.{Row}
 use Rattle.cell.specs.declared.Column.{Column}
 use Rattle.cell.specs.Place.{cell_at}
-use Rattle.page.specs.Page.{write_cell_of, empty_cell_of, empty_from_of, empty_rows_of, empty_all_of, exchanged_of}
+use Rattle.page.specs.Page.{write_cell_of, empty_cell_of, empty_from_of, empty_all_of, exchanged_of}
 use Rattle.page.specs.Cells.{Each, Allowed}
 
 -- two bytes of a cell, each by its own equation

@@ -1,7 +1,7 @@
 -- The stretches of a programme's frames on channel 1, told by its cues and not by its frames; and those of captions that are each shown and cleared.
 -- Paper 02, request 1: "Trainees need captions to practise on."; Paper 01, "Reel and register": "A run is a longest stretch of frames whose displayed cells are equal".
 -- Assumes nothing.
-use Rattle.std.specs.Prelude.{ℕ, ◌+◌, ◌-◌, ◌≤◌, ◌≡◌, true, List, [], ◌∷◌, eqb, length}
+use Rattle.std.specs.Prelude.{ℕ, ◌+◌, ◌-◌, List, [], ◌∷◌, eqb}
 use Rattle.facts.specs.Choice.{pick}
 use Rattle.wire.specs.Reel.{pairs_of}
 use Rattle.lines.specs.Line.{Run, run}

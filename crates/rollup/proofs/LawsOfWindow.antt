@@ -1,9 +1,8 @@
 -- What RU does with a window that stands: where its base row comes to, that no row of it is lost, and when nothing moves. Assumes nothing.
-use mathlib.Core.Path.{◌≡◌, refl, sym, ap, subst, ◌∙◌}
+use mathlib.Core.Path.{◌≡◌, refl, ap, ◌∙◌}
 use mathlib.Core.Logic.{inl}
 use Prim.Native.Nat.{ℕ, ◌+◌, ◌-◌, ◌*◌, ◌<◌, ◌≤◌}
 use native.Mathlib.Omega.{arith}
-use lib.ListN.{get_or}
 use borrow.Author.Tests.{ne_eqb}
 use Rattle.page.specs.Page.{Holds, non_displayed, empty_all_of}
 use Rattle.page.proofs.Laws.{empty_all_of_outside, length-empty_all_of}
@@ -12,7 +11,7 @@ use Rattle.window.proofs.LawsOfRows.{lowered_of_fits, lowered_of_stays, empty_ou
 use Rattle.window.proofs.LawsOfCells.{kept_none}
 use Rattle.state.specs.declared.Mode.{Mode}
 use Rattle.state.specs.State.{Captions}
-use Rattle.state.specs.Ranges.{Ranged, Sound}
+use Rattle.state.specs.Ranges.{Sound}
 use Rattle.placing.specs.Placing.{moved_of, window_at}
 use Rattle.placing.proofs.Laws.{moved_of_sound, moved_of_loses_no_row, moved_of_same}
 use Rattle.rollup.specs.Rollup.{opened_of, framed_of, ru_of}

@@ -2,7 +2,7 @@
 use mathlib.Core.Path.{◌≡◌, refl, sym, ap, ◌∙◌}
 use mathlib.Core.Bool.{Bool, true, false, ◌&&◌}
 use mathlib.Core.List.{List}
-use Prim.Native.Nat.{ℕ, ◌-◌, ◌<◌, ◌≤◌}
+use Prim.Native.Nat.{ℕ, ◌<◌, ◌≤◌}
 use native.Mathlib.Omega.{arith}
 use lib.Dec.{eqb, ltb}
 use borrow.Author.Tests.{lt-ltb, le-ltb, eq-eqb, ne_eqb, eqb-true}
@@ -11,7 +11,7 @@ use Rattle.facts.proofs.Choice.{and_left, and_right, and_both, pick_cases}
 use Rattle.wire.specs.Byte.{is_good, low_seven}
 use Rattle.codes.specs.Codes.{code_of, channel_of}
 use Rattle.codes.specs.Assigned.{is_unassigned}
-use Rattle.state.specs.State.{Captions, captions, Desk, desk}
+use Rattle.state.specs.State.{Captions, Desk, desk}
 use Rattle.cell.specs.Cursor.{after_write_of}
 use Rattle.state.specs.Style.{is_ready, cursor_of}
 use Rattle.state.proofs.Laws.{is_ready-with_cursor}

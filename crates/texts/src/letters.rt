@@ -32,10 +32,10 @@ fn braced(name: &[u8]) -> u8 {
         return coded(words::hex(name[0], name[1]));
     }
     coded(words::named(
-        b"2Aa_acute 5Ce_acute 5Ei_acute 5Fo_acute 60u_acute \
-          7Bc_cedilla 7Cdivide 7DN_tilde 7En_tilde 7Fblock \
-          90registered 91degree 92half 93question 94trademark 95cent 96pound 97note 98a_grave 99transparent \
-          9Ae_grave 9Ba_circumflex 9Ce_circumflex 9Di_circumflex 9Eo_circumflex 9Fu_circumflex",
+        b"2Aa-acute 5Ce-acute 5Ei-acute 5Fo-acute 60u-acute \
+          7Bc-cedilla 7Cdivide 7DN-tilde 7En-tilde 7Fblock \
+          90registered 91degree 92half 93question 94trademark 95cent 96pound 97note 98a-grave 99transparent \
+          9Ae-grave 9Ba-circumflex 9Ce-circumflex 9Di-circumflex 9Eo-circumflex 9Fu-circumflex",
         name,
     ))
 }

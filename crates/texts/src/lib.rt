@@ -84,7 +84,7 @@ fn put_row(line: &[u8], at: usize, step: &mut [u8], row: usize) -> u8
         line,
         column.end,
         b"00white 01green 02blue 03cyan 04red 05yellow 06magenta 08italics \
-          10white_u 11green_u 12blue_u 13cyan_u 14red_u 15yellow_u 16magenta_u 18italics_u",
+          10white-u 11green-u 12blue-u 13cyan-u 14red-u 15yellow-u 16magenta-u 18italics-u",
     );
     if pen.value == NONE {
         return wrong::NO_PEN;

@@ -11,7 +11,6 @@ use Rattle.facts.specs.Every.{blank_of}
 use Rattle.facts.proofs.Choice.{below_cases, and_left, and_right, and_both, implies_at, implies_of, same_test}
 use Rattle.facts.proofs.Every.{every_at, every_of, blank_at, blank_of_lem}
 use Rattle.cell.proofs.Laws.{empty_is_cell, is_cell_empty}
-use Rattle.page.specs.Page.{filled_from}
 use Rattle.page.proofs.LawsOfCounts.{filled_from-blank}
 use Rattle.window.specs.Window.{above_of}
 use Rattle.state.specs.declared.Mode.{Mode}

@@ -21,7 +21,7 @@ use Rattle.runs.specs.Frames.{screen_of, on_pair, screens_from, most, next_of, f
 use Rattle.runs.specs.Runs.{stretches_from, empty_screen, runs_of}
 use Rattle.runs.specs.Register.{text_of, refusal_of, register_of}
 use Rattle.runs.proofs.Laws.{text_of_seen_of}
-use Rattle.walk.specs.Walk.{Place, place, walk, at_header, at_frames, start_of, stays_of, shown_of, shown_text_of, finish_text_of, headed_of}
+use Rattle.walk.specs.Walk.{Place, at_header, at_frames, start_of, stays_of, shown_of, shown_text_of, finish_text_of, headed_of}
 
 -- the screens of the frames that are still to come
 abbrev pub coming_of : Place → List ℕ → List (List ℕ)

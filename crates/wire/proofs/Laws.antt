@@ -18,7 +18,7 @@ use Rattle.wire.specs.declared.Written.{Written}
 use Rattle.wire.specs.declared.Written.TheVariants.{Done, WrongLength}
 use Rattle.wire.specs.Byte.{low_seven}
 use Rattle.wire.specs.Line.{digits, digit_of, hex_of, is_line, byte_at, judge_of, line_at, line_of}
-use Rattle.wire.specs.Numbers.{Reading, reading, reading_of, read_line_of, number_of_written, value_of_written}
+use Rattle.wire.specs.Numbers.{reading, reading_of, read_line_of, number_of_written, value_of_written}
 use Rattle.wire.specs.Written.{Outcome, outcome, write_line_of}
 use Rattle.wire.proofs.Lemmas.{get_d_place_of, part_five, list_five, part_inside, line_size, line_digit, line_feed}
 

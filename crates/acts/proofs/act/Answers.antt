@@ -1,7 +1,6 @@
 -- `act` meets its contract. Assumes nothing.
 use mathlib.Core.Bool.{not, ◌&&◌}
 use mathlib.Core.Path.{sym, ◌∙◌}
-use borrow.Author.Rules.{rules}
 use Rattle.state.specs.State.{captions}
 use Rattle.acts.proofs.Laws.{act_of_shut, act_of_open}
 use Rattle.acts.proofs.act.Goals as goal

@@ -1,6 +1,5 @@
 -- `done` meets its contract. Assumes nothing.
 use native.Mathlib.Omega.{arith}
-use borrow.Author.Rules.{rules}
 use Rattle.acts.proofs.done.Goals as goal
 
 pub preamble-requires : goal.preamble-requires

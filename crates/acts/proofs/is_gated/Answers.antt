@@ -1,5 +1,4 @@
 -- `is_gated` meets its contract. Assumes nothing.
-use borrow.Author.Rules.{rules}
 use Rattle.acts.proofs.is_gated.Goals as goal
 
 pub returns-in-Preamble : goal.returns-in-Preamble

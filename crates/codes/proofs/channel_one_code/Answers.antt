@@ -1,6 +1,5 @@
 -- `channel_one_code` meets its contract: each test that failed on the way, then the one that held. Assumes nothing.
 use borrow.Author.Tests.{le-leb, lt-leb, eq-eqb, ne_eqb}
-use borrow.Author.Rules.{rules}
 use Rattle.codes.specs.Codes.{channel_one_code_of}
 use Rattle.codes.proofs.channel_one_code.Goals as goal
 

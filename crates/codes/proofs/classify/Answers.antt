@@ -1,7 +1,6 @@
 -- `classify` meets its contract. Assumes nothing.
 use mathlib.Core.Path.{ap, ◌∙◌}
 use Prim.Native.Nat.{ℕ}
-use borrow.Author.Rules.{rules}
 use Rattle.codes.specs.Codes.{channel_one_code_of, code_of}
 use Rattle.codes.proofs.classify.Goals as goal
 

@@ -1,7 +1,6 @@
 -- `is_assigned` meets its contract. Assumes nothing.
 use mathlib.Core.Path.{ap, ◌∙◌}
 use mathlib.Core.Bool.{not}
-use borrow.Author.Rules.{rules}
 use Rattle.codes.specs.Assigned.{is_unassigned, is_assigned}
 use Rattle.codes.proofs.Laws.{is_control_facts}
 use Rattle.codes.proofs.is_assigned.Goals as goal

@@ -1,7 +1,6 @@
 -- `is_expected` meets its contract. Assumes nothing.
 use mathlib.Core.Path.{ap}
 use mathlib.Core.Bool.{Bool, ◌&&◌, ◌||◌}
-use borrow.Author.Rules.{rules}
 use lib.Dec.{eqb}
 use Rattle.codes.specs.Assigned.{is_expected}
 use Rattle.codes.proofs.is_expected.Goals as goal

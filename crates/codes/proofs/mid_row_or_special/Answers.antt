@@ -1,6 +1,5 @@
 -- `mid_row_or_special` meets its contract. Assumes nothing.
 use borrow.Author.Tests.{le-leb, lt-leb}
-use borrow.Author.Rules.{rules}
 use Rattle.codes.specs.Codes.{mid_row_or_special_of}
 use Rattle.codes.proofs.mid_row_or_special.Goals as goal
 

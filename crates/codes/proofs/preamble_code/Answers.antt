@@ -1,6 +1,5 @@
 -- `preamble_code` meets its contract. Assumes nothing.
 use borrow.Author.Tests.{eq-eqb, ne_eqb}
-use borrow.Author.Rules.{rules}
 use Rattle.codes.specs.Codes.{preamble_code_of}
 use Rattle.codes.proofs.preamble_code.Goals as goal
 

@@ -2,7 +2,6 @@
 use mathlib.Core.Path.{refl}
 use native.Mathlib.Omega.{arith}
 use borrow.Author.Tests.{le-leb, lt-leb}
-use borrow.Author.Rules.{rules}
 use Rattle.codes.specs.Codes.{without_channel_of}
 use Rattle.codes.proofs.without_channel.Goals as goal
 

@@ -1,6 +1,5 @@
 -- `main` is safe and ends: the first byte goes up to 1Fh, and each counts at most 96 lines. Assumes nothing.
 use Prim.Native.Nat.{◌-◌, ◌*◌, ◌≤◌}
-use borrow.Author.Rules.{rules}
 use Rattle.codes_main.proofs.main.Given as goal
 
 abbrev pub invariant-loop-a : goal.invariant-loop-a

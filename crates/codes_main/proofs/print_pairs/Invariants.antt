@@ -1,6 +1,5 @@
 -- `print_pairs` is safe and ends: the second byte goes up to 7Fh, and each pair counts at most one line. Assumes nothing.
 use Prim.Native.Nat.{◌+◌, ◌-◌, ◌≤◌}
-use borrow.Author.Rules.{rules}
 use Rattle.codes_main.proofs.print_pairs.Given as goal
 
 abbrev pub invariant-loop-b : goal.invariant-loop-b

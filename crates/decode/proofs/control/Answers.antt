@@ -3,7 +3,6 @@ use mathlib.Core.Path.{ap, sym, subst, ◌∙◌}
 use Prim.Native.Nat.{ℕ}
 use lib.Dec.{eqb}
 use borrow.Author.Tests.{eq-eqb, ne_eqb}
-use borrow.Author.Rules.{rules}
 use Rattle.acts.specs.Act.{act_of}
 use Rattle.state.specs.State.{captions, desk, state}
 use Rattle.codes.proofs.Laws.{code_of_proper}

@@ -1,7 +1,6 @@
 -- `is_damaged_repeat` meets its contract. Assumes nothing.
 use mathlib.Core.Bool.{◌&&◌}
 use lib.Dec.{eqb, leb}
-use borrow.Author.Rules.{rules}
 use Rattle.decode.proofs.is_damaged_repeat.Goals as goal
 
 pub returns : goal.returns

@@ -4,7 +4,6 @@ use native.Mathlib.Omega.{arith}
 use Prim.Native.Nat.{ℕ, ◌≤◌}
 use lib.Dec.{ltb}
 use borrow.Author.Tests.{lt-ltb, le-ltb}
-use borrow.Author.Rules.{rules}
 use Rattle.wire.specs.Byte.{low_seven}
 use Rattle.state.specs.State.{desk}
 use Rattle.state.specs.declared.State.{State}

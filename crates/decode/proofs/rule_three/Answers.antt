@@ -4,11 +4,10 @@ use mathlib.Core.Path.{ap, sym, ◌∙◌}
 use native.Mathlib.Omega.{arith}
 use lib.Dec.{eqb, ltb}
 use borrow.Author.Tests.{ltb-false}
-use borrow.Author.Rules.{rules}
 use Rattle.codes.specs.Assigned.{is_unassigned}
 use Rattle.codes.specs.Codes.{code_of}
 use Rattle.facts.proofs.Choice.{or_none_left, or_none_right}
-use Rattle.state.specs.State.{desk, state}
+use Rattle.state.specs.State.{desk}
 use Rattle.state.specs.declared.State.{State}
 use Rattle.decode.specs.Pair.{control_of}
 use Rattle.decode.specs.Pair.{cleared_of, rule_three_of}

@@ -2,7 +2,6 @@
 use mathlib.Core.Path.{ap, ◌∙◌}
 use Prim.Native.Nat.{ℕ}
 use lib.ListN.{replicate}
-use borrow.Author.Rules.{rules}
 use Rattle.state.specs.State.{desk}
 use Rattle.decode.specs.Step.{select_of}
 use Rattle.decode.proofs.select.Goals as goal

@@ -1,7 +1,6 @@
 -- `take` meets its contract. Assumes nothing.
 use mathlib.Core.Path.{sym}
 use Prim.Native.Nat.{◌+◌}
-use borrow.Author.Rules.{rules}
 use Rattle.state.specs.State.{desk, state}
 use Rattle.decode.specs.Step.{taken_of}
 use Rattle.decode.proofs.Laws.{pair_of_acts}

@@ -2,7 +2,6 @@
 use mathlib.Core.Path.{ap, ◌∙◌}
 use Prim.Native.Nat.{ℕ}
 use lib.Dec.{ltb}
-use borrow.Author.Rules.{rules}
 use Rattle.facts.specs.Choice.{pick}
 use Rattle.decode.specs.Pair.{text_code_of}
 use Rattle.decode.proofs.text_code.Goals as goal

@@ -1,6 +1,5 @@
 -- `type_both` meets its contract. Assumes nothing.
 use mathlib.Core.Path.{ap, sym, ◌∙◌}
-use borrow.Author.Rules.{rules}
 use Rattle.state.specs.State.{Captions, desk}
 use Rattle.decode.specs.Pair.{with_mode}
 use Rattle.decode.proofs.Laws.{is_open_live, open_both, shut_both}

@@ -4,7 +4,6 @@ use mathlib.Core.Path.{◌≡◌, ap, sym, subst, ◌∙◌}
 use native.Mathlib.Omega.{arith}
 use Prim.Native.Nat.{ℕ, ◌-◌, ◌*◌, ◌/◌, ◌≤◌}
 use lib.ListN.{length, replicate}
-use borrow.Author.Rules.{rules}
 use Rattle.standing.proofs.Ways.{back_unfit, back_invalid, back_beyond, back_broken, back_done}
 use Rattle.facts.specs.Over.{over}
 use Rattle.valid.proofs.Laws.{is_valid_sound}

@@ -2,7 +2,6 @@
 use mathlib.Core.Bool.{true}
 use mathlib.Core.Path.{◌≡◌, sym, ◌∙◌}
 use lib.ListN.{length}
-use borrow.Author.Rules.{rules}
 use Rattle.standing.proofs.Ways.{open_done, open_unfit}
 use Rattle.standing.proofs.Ways.{Sized, is_sized_sizes}
 use Rattle.replay.specs.Captions.{caption_decoder}

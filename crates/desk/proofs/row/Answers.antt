@@ -4,7 +4,6 @@ use Prim.Native.Nat.{◌≤◌}
 use lib.Dec.{leb}
 use borrow.Author.Tests.{leb-true}
 use borrow.Author.Tests.{eq-eqb, ne_eqb}
-use borrow.Author.Rules.{rules}
 use Rattle.facts.proofs.Choice.{and_left, and_right}
 use Rattle.cell.specs.Place.{row_number}
 use Rattle.valid.proofs.Laws.{is_valid_count}

@@ -3,7 +3,6 @@ use mathlib.Core.Bool.{true}
 use mathlib.Core.Path.{◌≡◌, ap, sym, subst, refl, ◌∙◌}
 use Prim.Native.Nat.{◌<◌}
 use lib.ListN.{length}
-use borrow.Author.Rules.{rules}
 use Rattle.standing.proofs.Acts.{is_formed_allowed}
 use Rattle.standing.proofs.Ways.{give_unfit, give_invalid, give_full}
 use Rattle.replay.proofs.Laws.{act_of_pair}

@@ -1,7 +1,6 @@
 -- `view` meets its contract. Assumes nothing.
 use mathlib.Core.Path.{sym, ◌∙◌}
 use native.Mathlib.Omega.{arith}
-use borrow.Author.Rules.{rules}
 use Rattle.valid.proofs.Laws.{is_valid-length}
 use Rattle.desk.specs.Looks.{view_of}
 use Rattle.desk.proofs.view.Goals as goal

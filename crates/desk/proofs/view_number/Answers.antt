@@ -1,7 +1,6 @@
 -- `view_number` meets its contract. Assumes nothing.
 use mathlib.Core.Path.{sym, ◌∙◌}
 use borrow.Author.Tests.{eq-eqb, ne_eqb}
-use borrow.Author.Rules.{rules}
 use Rattle.desk.specs.Looks.{look_of, view_number_of}
 use Rattle.desk.proofs.view_number.Goals as goal
 

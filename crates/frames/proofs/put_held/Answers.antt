@@ -2,7 +2,6 @@
 use mathlib.Core.Path.{sym}
 use native.Mathlib.Omega.{arith}
 use lib.Seq.{length-take-le}
-use borrow.Author.Rules.{rules}
 use Rattle.frames.specs.Held.{last_at}
 use Rattle.frames.proofs.Laws.{last_all, held_load, held_nulls, held_last, held_all}
 use Rattle.frames.proofs.put_held.Goals as goal

@@ -4,7 +4,6 @@ use native.Mathlib.Omega.{arith}
 use Prim.Native.Nat.{◌+◌, ◌-◌}
 use lib.ListN.{take, drop}
 use borrow.Rule.Slice.PartMut.{mid_len}
-use borrow.Author.Rules.{rules}
 use Rattle.facts.proofs.Over.{part-over}
 use Rattle.wire.proofs.Laws.{length_line_of}
 use Rattle.frames.proofs.Laws.{written_line}

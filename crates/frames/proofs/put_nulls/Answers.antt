@@ -2,11 +2,10 @@
 use mathlib.Core.Path.{◌≡◌, ap}
 use native.Mathlib.Omega.{arith}
 use Prim.Native.Nat.{ℕ, ◌-◌}
-use borrow.Author.Rules.{rules}
 use Rattle.wire.specs.Line.{line_of}
 use Rattle.wire.specs.Reel.{reel_of_raw}
 use Rattle.tape.specs.Programme.{nulls_of}
-use Rattle.items.proofs.LawsOfLaid.{Rest, rest_start, rest_stop, rest_room, rest_turn}
+use Rattle.items.proofs.LawsOfLaid.{rest_start, rest_stop, rest_room, rest_turn}
 use Rattle.frames.proofs.Laws.{nulls_more}
 use Rattle.frames.proofs.put_nulls.Goals as goal
 

@@ -1,11 +1,10 @@
 -- `put_pairs` meets its contract. Assumes nothing.
 use native.Mathlib.Omega.{arith}
-use Prim.Native.Nat.{◌+◌, ◌-◌, ◌≤◌}
-use lib.ListN.{length, get_or, drop}
-use borrow.Author.Rules.{rules}
+use Prim.Native.Nat.{◌+◌}
+use lib.ListN.{get_or, drop}
 use Rattle.wire.specs.Line.{line_of}
 use Rattle.wire.specs.Reel.{reel_of_raw}
-use Rattle.items.proofs.LawsOfLaid.{Rest, rest_start, rest_stop, rest_room, rest_turn}
+use Rattle.items.proofs.LawsOfLaid.{rest_start, rest_stop, rest_room, rest_turn}
 use Rattle.frames.proofs.Laws.{reel_more, reel_end}
 use Rattle.frames.proofs.put_pairs.Goals as goal
 

@@ -1,12 +1,7 @@
 -- `read_all` meets its contract. Assumes nothing.
 use mathlib.Core.Path.{◌≡◌}
-use native.Mathlib.Omega.{arith}
 use Prim.Native.Nat.{◌+◌, ◌-◌, ◌≤◌}
-use lib.Dec.{ltb}
 use lib.ListN.{length}
-use borrow.Author.Rules.{rules}
-use borrow.Author.Tests.{ltb-true}
-use Rattle.facts.proofs.Choice.{and_left}
 use Rattle.input.proofs.read_all.Given as goal
 
 abbrev pub invariant-loop-got : goal.invariant-loop-got

@@ -1,5 +1,4 @@
 -- `indent` meets its contract. Assumes nothing.
-use borrow.Author.Rules.{rules}
 use Rattle.items.proofs.LawsOfItems.{indent_white, indent_other}
 use Rattle.items.proofs.indent.Goals as goal
 

@@ -1,5 +1,4 @@
 -- `next_item` meets its contract. Assumes nothing.
-use borrow.Author.Rules.{rules}
 use Rattle.items.proofs.LawsOfItems.{next_tab, next_special, next_two, next_one}
 use Rattle.items.proofs.next_item.Goals as goal
 

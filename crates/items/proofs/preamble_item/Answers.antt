@@ -1,5 +1,4 @@
 -- `preamble_item` meets its contract. Assumes nothing.
-use borrow.Author.Rules.{rules}
 use Rattle.items.proofs.LawsOfItems.{preamble_joined}
 use Rattle.items.proofs.preamble_item.Goals as goal
 

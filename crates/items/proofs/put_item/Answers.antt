@@ -1,5 +1,4 @@
 -- `put_item` meets its contract. Assumes nothing.
-use borrow.Author.Rules.{rules}
 use native.Mathlib.Omega.{arith}
 use Rattle.items.proofs.LawsOfItems.{length_twice, length_once, laid_twice, laid_once}
 use Rattle.items.proofs.put_item.Goals as goal

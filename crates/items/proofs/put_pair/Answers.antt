@@ -1,5 +1,4 @@
 -- `put_pair` meets its contract. Assumes nothing.
-use borrow.Author.Rules.{rules}
 use lib.ListN.{length-set}
 use native.Mathlib.Omega.{arith}
 use Rattle.facts.proofs.Over.{over_two}

@@ -1,12 +1,7 @@
 -- `end` meets its contract. Assumes nothing.
-use mathlib.Core.Path.{◌≡◌, sym, ◌∙◌}
-use Prim.Native.Nat.{ℕ, ◌-◌, ◌*◌, ◌≤◌, ◌<◌}
-use native.Mathlib.Omega.{arith}
-use borrow.Author.Rules.{rules}
-use Rattle.facts.proofs.Every.{blank_at}
-use Rattle.facts.proofs.Choice.{below_cases}
+use mathlib.Core.Path.{◌≡◌}
+use Prim.Native.Nat.{ℕ, ◌≤◌, ◌<◌}
 use Rattle.lines.specs.Span.{code_at}
-use Rattle.lines.proofs.Printed.{end_of_only, end_of_none}
 use Rattle.lines.proofs.end.Given as goal
 
 abbrev pub invariant-loop-k : goal.invariant-loop-k

@@ -1,10 +1,7 @@
 -- `lead` meets its contract. Assumes nothing.
 use mathlib.Core.Path.{◌≡◌}
 use Prim.Native.Nat.{ℕ, ◌-◌, ◌≤◌, ◌<◌}
-use native.Mathlib.Omega.{arith}
-use borrow.Author.Rules.{rules}
 use Rattle.lines.specs.Span.{code_at}
-use Rattle.lines.proofs.Printed.{below_more, lead_of_only}
 use Rattle.lines.proofs.lead.Given as goal
 
 abbrev pub invariant-loop-k : goal.invariant-loop-k

@@ -4,7 +4,6 @@ use native.Mathlib.Omega.{arith}
 use Prim.Native.Nat.{◌+◌, ◌-◌}
 use lib.ListN.{length, take, drop}
 use borrow.Rule.Slice.PartMut.{mid_len}
-use borrow.Author.Rules.{rules}
 use Rattle.facts.proofs.Over.{part-over, over_all}
 use Rattle.lines.proofs.put.Goals as goal
 

@@ -1,14 +1,9 @@
 -- `put_codes` meets its contract. Assumes nothing.
-use mathlib.Core.Path.{◌≡◌, refl, ap, sym, ◌∙◌}
-use Prim.Native.Nat.{ℕ, ◌+◌, ◌-◌, ◌*◌, ◌≤◌}
-use native.Mathlib.Omega.{arith}
-use lib.ListN.{length, length-set}
-use borrow.Author.Rules.{rules}
+use mathlib.Core.Path.{◌≡◌}
+use Prim.Native.Nat.{◌+◌, ◌-◌, ◌*◌, ◌≤◌}
+use lib.ListN.{length}
 use Rattle.facts.specs.Over.{over}
-use Rattle.facts.proofs.Over.{over_nil}
 use Rattle.lines.specs.Line.{codes_of}
-use Rattle.lines.proofs.Laws.{length_codes_of}
-use Rattle.lines.proofs.Lemmas.{codes_more}
 use Rattle.lines.proofs.put_codes.Given as goal
 
 abbrev pub invariant-loop-k : goal.invariant-loop-k

@@ -1,7 +1,6 @@
 -- `put_frame` meets its contract. Assumes nothing.
 use mathlib.Core.List.{[], ◌∷◌}
 use mathlib.Core.Path.{ap, ◌∙◌}
-use borrow.Author.Rules.{rules}
 use Rattle.facts.specs.Over.{over}
 use Rattle.lines.specs.Line.{frame_of}
 use Rattle.lines.proofs.put_frame.Goals as goal

@@ -1,7 +1,6 @@
 -- `put_head` meets its contract. Assumes nothing.
 use native.Mathlib.Omega.{arith}
 use Prim.Native.Nat.{◌+◌}
-use borrow.Author.Rules.{rules}
 use Rattle.lines.specs.Line.{frame_of, head_of}
 use Rattle.facts.proofs.Over.{over_then}
 use Rattle.lines.proofs.Laws.{length_frame_of}

@@ -1,13 +1,9 @@
 -- `put_lines` meets its contract. Assumes nothing.
-use mathlib.Core.Path.{◌≡◌, refl, ap, sym, ◌∙◌}
-use Prim.Native.Nat.{ℕ, ◌+◌, ◌-◌, ◌*◌, ◌≤◌}
-use native.Mathlib.Omega.{arith}
+use mathlib.Core.Path.{◌≡◌}
+use Prim.Native.Nat.{◌+◌, ◌-◌, ◌*◌, ◌≤◌}
 use lib.ListN.{length}
-use borrow.Author.Rules.{rules}
 use Rattle.facts.specs.Over.{over}
-use Rattle.facts.proofs.Over.{over_nil}
 use Rattle.lines.specs.Line.{run, top_lines_of}
-use Rattle.lines.proofs.Lemmas.{rows_more}
 use Rattle.lines.proofs.put_lines.Given as goal
 
 abbrev pub invariant-loop-row : goal.invariant-loop-row

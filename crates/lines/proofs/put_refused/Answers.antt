@@ -3,7 +3,6 @@ use mathlib.Core.List.{[], ◌∷◌}
 use mathlib.Core.Path.{ap, refl, ◌∙◌}
 use native.Mathlib.Omega.{arith}
 use Prim.Native.Nat.{ℕ, ◌+◌}
-use borrow.Author.Rules.{rules}
 use Rattle.facts.specs.Over.{over}
 use Rattle.lines.specs.Line.{frame_of, refused_of}
 use Rattle.facts.proofs.Over.{over_then}

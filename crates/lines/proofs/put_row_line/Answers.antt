@@ -1,7 +1,6 @@
 -- `put_row_line` meets its contract. Assumes nothing.
 use mathlib.Core.Path.{ap, sym, ◌∙◌}
 use Prim.Native.Nat.{ℕ}
-use borrow.Author.Rules.{rules}
 use Rattle.lines.specs.Line.{run}
 use Rattle.lines.specs.Span.{lead_of, end_of}
 use Rattle.lines.proofs.Lemmas.{row_nothing, row_line}

@@ -1,5 +1,4 @@
 -- `loikrasun_back` meets its contract. Assumes nothing.
-use borrow.Author.Rules.{rules}
 use Rattle.loikrasun.proofs.Laws.{ended_packed}
 use Rattle.loikrasun.proofs.loikrasun_back.Goals as goal
 

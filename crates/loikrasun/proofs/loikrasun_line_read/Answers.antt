@@ -1,6 +1,5 @@
 -- `loikrasun_line_read` meets its contract. Assumes nothing.
 use mathlib.Core.Path.{ap, ◌∙◌}
-use borrow.Author.Rules.{rules}
 use Rattle.wire.specs.declared.Line.{Line}
 use Rattle.loikrasun.specs.Packed.{packed_of, given_line}
 use Rattle.loikrasun.proofs.loikrasun_line_read.Goals as goal

@@ -1,6 +1,5 @@
 -- `loikrasun_row` meets its contract. Assumes nothing.
 use mathlib.Core.Path.{ap, ◌∙◌}
-use borrow.Author.Rules.{rules}
 use Rattle.loikrasun.specs.Packed.{packed_of}
 use Rattle.loikrasun.proofs.loikrasun_row.Goals as goal
 

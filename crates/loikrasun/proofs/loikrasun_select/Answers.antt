@@ -1,5 +1,4 @@
 -- `loikrasun_select` meets its contract. Assumes nothing.
-use borrow.Author.Rules.{rules}
 use Rattle.loikrasun.proofs.Laws.{ended_packed}
 use Rattle.loikrasun.proofs.loikrasun_select.Goals as goal
 

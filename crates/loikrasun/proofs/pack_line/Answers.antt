@@ -1,5 +1,4 @@
 -- `pack_line` meets its contract. Assumes nothing.
-use borrow.Author.Rules.{rules}
 use Rattle.loikrasun.proofs.pack_line.Goals as goal
 
 pub returns-in-Pair : goal.returns-in-Pair

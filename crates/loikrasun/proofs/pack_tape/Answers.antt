@@ -1,5 +1,4 @@
 -- `pack_tape` meets its contract. Assumes nothing.
-use borrow.Author.Rules.{rules}
 use Rattle.loikrasun.proofs.pack_tape.Goals as goal
 
 pub returns-in-Done : goal.returns-in-Done

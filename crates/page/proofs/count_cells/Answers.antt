@@ -1,7 +1,7 @@
 -- `count_cells` meets its contract: two bytes a cell. Assumes nothing.
 use mathlib.Core.Path.{◌≡◌, ap, ◌∙◌}
 use native.Mathlib.Omega.{arith}
-use Prim.Native.Nat.{ℕ, ◌+◌, ◌-◌, ◌/◌, ◌≤◌}
+use Prim.Native.Nat.{ℕ, ◌+◌, ◌/◌}
 use borrow.Author.Rules.{rules}
 use Rattle.page.specs.Page.{filled_from}
 use Rattle.page.proofs.LawsOfCounts.{filled_from_byte}

@@ -1,5 +1,4 @@
 -- `empty_all` meets its contract. Assumes nothing.
-use borrow.Author.Rules.{rules}
 use Rattle.page.specs.Page.{empty_all_of}
 use Rattle.page.proofs.empty_all.Goals as goal
 

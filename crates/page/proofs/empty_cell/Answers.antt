@@ -1,5 +1,4 @@
 -- `empty_cell` meets its contract. Assumes nothing.
-use borrow.Author.Rules.{rules}
 use Rattle.page.specs.Page.{empty_cell_of, write_cell_of}
 use Rattle.page.proofs.empty_cell.Goals as goal
 

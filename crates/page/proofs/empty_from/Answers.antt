@@ -2,7 +2,6 @@
 use mathlib.Core.Path.{ap, ◌∙◌}
 use Prim.Native.Nat.{ℕ, ◌-◌, ◌*◌}
 use lib.ListN.{replicate}
-use borrow.Author.Rules.{rules}
 use Rattle.facts.specs.Over.{over}
 use Rattle.page.specs.Page.{empty_from_of}
 use Rattle.page.proofs.empty_from.Goals as goal

@@ -1,5 +1,4 @@
 -- `empty_rows` meets its contract. Assumes nothing.
-use borrow.Author.Rules.{rules}
 use Rattle.page.specs.Page.{empty_rows_of}
 use Rattle.page.proofs.empty_rows.Goals as goal
 

@@ -1,5 +1,4 @@
 -- `exchange` meets its contract. Assumes nothing.
-use borrow.Author.Rules.{rules}
 use Rattle.page.specs.Page.{exchanged_of}
 use Rattle.page.proofs.exchange.Goals as goal
 

@@ -1,5 +1,4 @@
 -- `is_empty` meets its contract. Assumes nothing.
-use borrow.Author.Rules.{rules}
 use Rattle.page.specs.Page.{is_empty_of}
 use Rattle.page.proofs.is_empty.Goals as goal
 

@@ -1,5 +1,4 @@
 -- `same_screen` meets its contract. Assumes nothing.
-use borrow.Author.Rules.{rules}
 use Rattle.page.specs.Page.{same_screen_of}
 use Rattle.page.proofs.same_screen.Goals as goal
 

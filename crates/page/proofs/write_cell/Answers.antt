@@ -4,7 +4,6 @@ use mathlib.Core.Path.{ap, ◌∙◌}
 use Prim.Native.Nat.{ℕ}
 use native.Mathlib.Omega.{arith}
 use lib.ListN.{length-set}
-use borrow.Author.Rules.{rules}
 use Rattle.facts.specs.Over.{over}
 use Rattle.facts.proofs.Over.{over_two}
 use Rattle.page.specs.Page.{write_cell_of}

@@ -1,10 +1,9 @@
 -- `fill` meets its contract. Assumes nothing.
-use mathlib.Core.Path.{◌≡◌, refl, sym, ◌∙◌}
+use mathlib.Core.Path.{refl, sym, ◌∙◌}
 use native.Mathlib.Omega.{arith}
-use lib.ListN.{length}
 use borrow.Author.Rules.{rules}
-use Rattle.walk.specs.Walk.{place, steps_of}
-use Rattle.pieces.proofs.Laws.{is_on_live, is_on-room, Going, going_start, going_more, going_less, going_end}
+use Rattle.walk.specs.Walk.{place}
+use Rattle.pieces.proofs.Laws.{is_on_live, is_on-room, going_start, going_more, going_less, going_end}
 use Rattle.pieces.proofs.fill.Goals as goal
 
 pub loop-cells-init : goal.loop-cells-init

@@ -1,10 +1,8 @@
 -- `fill` meets its contract. Assumes nothing.
-use mathlib.Core.Path.{◌≡◌, refl, sym, ◌∙◌}
-use native.Mathlib.Omega.{arith}
+use mathlib.Core.Path.{◌≡◌}
 use lib.ListN.{length}
-use borrow.Author.Rules.{rules}
 use Rattle.walk.specs.Walk.{place, steps_of}
-use Rattle.pieces.proofs.Laws.{is_on_live, is_on-room, Going, going_start, going_more, going_less, going_end}
+use Rattle.pieces.proofs.Laws.{Going}
 use Rattle.pieces.proofs.fill.Given as goal
 
 abbrev pub invariant-loop-cells : goal.invariant-loop-cells

@@ -1,6 +1,5 @@
 -- `next_line` meets its contract. Assumes nothing.
 use mathlib.Core.Path.{sym, ◌∙◌}
-use borrow.Author.Rules.{rules}
 use Rattle.runs.proofs.Laws.{next_of_line, next_of_full}
 use Rattle.pieces.proofs.next_line.Goals as goal
 

@@ -1,5 +1,4 @@
 -- `der` meets its contract. Assumes nothing.
-use borrow.Author.Rules.{rules}
 use Rattle.placing.specs.Placing.{der_of}
 use Rattle.placing.proofs.der.Goals as goal
 

@@ -1,7 +1,6 @@
 -- `moved` meets its contract. Assumes nothing.
 use mathlib.Core.Path.{ap, sym}
 use native.Mathlib.Omega.{arith}
-use borrow.Author.Rules.{rules}
 use Rattle.state.specs.State.{captions}
 use Rattle.state.specs.Style.{cursors}
 use Rattle.placing.specs.Placing.{moved_of}

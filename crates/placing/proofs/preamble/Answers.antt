@@ -2,7 +2,6 @@
 use mathlib.Core.Path.{ap, ◌∙◌}
 use native.Mathlib.Omega.{arith}
 use borrow.Author.Tests.{eq-eqb, ne_eqb}
-use borrow.Author.Rules.{rules}
 use Rattle.window.proofs.LawsOfRows.{lowered_of_placed, lowered_of_fits}
 use Rattle.state.specs.State.{captions}
 use Rattle.typing.proofs.Laws.{turned_of-set}

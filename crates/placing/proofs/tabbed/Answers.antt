@@ -1,6 +1,5 @@
 -- `tabbed` meets its contract. Assumes nothing.
 use mathlib.Core.Path.{ap, ◌∙◌}
-use borrow.Author.Rules.{rules}
 use Rattle.cell.specs.Cursor.{tab_of}
 use Rattle.cell.specs.declared.Cursor.{Cursor}
 use Rattle.state.specs.Style.{cursor_of, with_cursor}

@@ -1,6 +1,5 @@
 -- `read_count` meets its contract. Assumes nothing.
 use mathlib.Core.Path.{refl}
-use borrow.Author.Rules.{rules}
 use Rattle.record.proofs.read_count.Goals as goal
 
 pub returns : goal.returns

@@ -1,6 +1,5 @@
 -- `read_state` meets its contract. Assumes nothing.
 use lib.ListN.{get_or}
-use borrow.Author.Rules.{rules}
 use Rattle.state.specs.State.{mode, state}
 use Rattle.record.specs.Layout.{state_of}
 use Rattle.record.proofs.read_state.Goals as goal

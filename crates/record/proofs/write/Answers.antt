@@ -4,7 +4,6 @@ use mathlib.Core.List.{List}
 use Prim.Native.Nat.{ℕ}
 use native.Mathlib.Omega.{arith}
 use lib.ListN.{length}
-use borrow.Author.Rules.{rules}
 use borrow.Rule.Slice.PartMut.{mid_of, mid_len}
 use Rattle.facts.proofs.Over.{over_all}
 use Rattle.state.specs.State.{desk}

@@ -1,12 +1,9 @@
 -- `write_counts` meets its contract. Assumes nothing.
-use mathlib.Core.Path.{◌≡◌, ap, sym, ◌∙◌}
-use Prim.Native.Nat.{ℕ, ◌-◌, ◌≤◌}
-use native.Mathlib.Omega.{arith}
+use mathlib.Core.Path.{◌≡◌}
+use Prim.Native.Nat.{◌-◌, ◌≤◌}
 use lib.ListN.{length, drop}
-use borrow.Author.Rules.{rules}
 use Rattle.facts.specs.Over.{over}
-use Rattle.facts.proofs.Over.{over_nil}
-use Rattle.record.proofs.LawsOfCounts.{counts_to, counts_more, counts_of-rows}
+use Rattle.record.proofs.LawsOfCounts.{counts_to}
 use Rattle.record.proofs.write_counts.Given as goal
 
 abbrev pub invariant-loop-r : goal.invariant-loop-r

@@ -1,5 +1,4 @@
 -- `write_head` meets its contract: fields, counts and zeros stand one behind the other. Assumes nothing.
-use borrow.Author.Rules.{rules}
 use Rattle.record.proofs.Laws.{head_written}
 use Rattle.record.proofs.write_head.Goals as goal
 

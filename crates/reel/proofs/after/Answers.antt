@@ -1,7 +1,6 @@
 -- `after` meets its contract. Assumes nothing.
 use mathlib.Core.Path.{sym, ◌∙◌}
 use native.Mathlib.Omega.{arith}
-use borrow.Author.Rules.{rules}
 use Rattle.wire.proofs.Laws.{line_of_line_at}
 use Rattle.reel.specs.Walk.{after_of}
 use Rattle.reel.proofs.after.Goals as goal

@@ -1,5 +1,5 @@
 -- `play` is safe and ends: each text starts behind the reel before it. Assumes nothing.
-use Rattle.std.proofs.Common.{◌-◌, length, rules}
+use Rattle.std.proofs.Common.{◌-◌, length}
 use Rattle.reels_main.proofs.play.Given as goal
 
 abbrev pub invariant-loop-at : goal.invariant-loop-at

@@ -1,11 +1,6 @@
 -- `print` meets its contract. Assumes nothing.
-use mathlib.Core.Path.{◌≡◌, sym}
-use native.Mathlib.Omega.{arith}
-use lib.ListN.{length}
-use lib.Seq.{length-take-le}
-use borrow.Author.Rules.{rules}
 use Rattle.walk.specs.Walk.{place, steps_of}
-use Rattle.register.proofs.Laws.{Printing, printing_start, printing_more, printing_less, printing_end, goes_on, is_done}
+use Rattle.register.proofs.Laws.{Printing}
 use Rattle.register.proofs.print.Given as goal
 
 abbrev pub invariant-loop-w : goal.invariant-loop-w

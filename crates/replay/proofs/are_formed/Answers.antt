@@ -1,9 +1,6 @@
 -- `are_formed` meets its contract. Assumes nothing.
 use mathlib.Core.Path.{◌≡◌, ap, sym, ◌∙◌}
-use mathlib.Core.Bool.{true}
-use Prim.Native.Nat.{◌-◌, ◌≤◌}
 use native.Mathlib.Omega.{arith}
-use borrow.Author.Tests.{not-true, not-false}
 use borrow.Author.Rules.{rules}
 use Rattle.standing.proofs.Within.{are_formed_none, are_formed_more}
 use Rattle.standing.specs.Acts.{are_formed}

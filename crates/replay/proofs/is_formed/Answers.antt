@@ -1,5 +1,4 @@
 -- `is_formed` meets its contract. Assumes nothing.
-use borrow.Author.Rules.{rules}
 use Rattle.replay.proofs.Laws.{is_formed_pair, is_formed_other}
 use Rattle.replay.proofs.is_formed.Goals as goal
 

@@ -1,18 +1,10 @@
 -- `replay` meets its contract. Assumes nothing.
-use mathlib.Core.Path.{◌≡◌, ap, sym, subst, ◌∙◌}
-use mathlib.Core.List.{List}
-use Prim.Native.Nat.{ℕ, ◌+◌, ◌-◌, ◌*◌, ◌≤◌, ◌<◌}
-use native.Mathlib.Omega.{arith}
+use mathlib.Core.Path.{◌≡◌}
+use Prim.Native.Nat.{◌-◌, ◌≤◌}
 use lib.ListN.{length}
-use borrow.Author.Rules.{rules}
-use Rattle.standing.proofs.Within.{replay_none, replay_more, replay_keeps_sound}
 use Rattle.standing.specs.Calls.{replay_of}
-use Rattle.decode.specs.Sound.{SoundDesk}
-use Rattle.state.specs.declared.State.{State}
-use Rattle.state.specs.State.{Desk, desk}
+use Rattle.state.specs.State.{desk}
 use Rattle.replay.specs.Captions.{caption_decoder}
-use Rattle.replay.proofs.Laws.{caption_decoder_lawful}
-use Rattle.replay.proofs.LawsOfReplay.{replay_join}
 use Rattle.replay.proofs.replay.Given as goal
 
 abbrev pub invariant-loop-n : goal.invariant-loop-n

@@ -1,6 +1,5 @@
 -- `step` meets its contract. Assumes nothing.
 use mathlib.Core.Path.{ap, ◌∙◌}
-use borrow.Author.Rules.{rules}
 use Rattle.state.specs.State.{desk}
 use Rattle.replay.specs.Captions.{step_of}
 use Rattle.replay.proofs.Laws.{act_of_pair, act_of_select}

@@ -1,13 +1,11 @@
 -- `type_run` meets its contract. Assumes nothing.
 use mathlib.Core.Path.{◌≡◌, refl, ap, sym, ◌∙◌}
 use mathlib.Core.Bool.{true}
-use Prim.Native.Nat.{ℕ, ◌+◌, ◌-◌, ◌*◌, ◌≤◌, ◌<◌}
-use native.Mathlib.Nat.{add-sub_cancel_left}
+use Prim.Native.Nat.{◌+◌, ◌-◌, ◌*◌, ◌<◌}
 use native.Mathlib.Omega.{arith}
-use lib.ListN.{length, get_or}
+use lib.ListN.{get_or}
 use borrow.Author.Rules.{rules}
 use Rattle.cell.specs.declared.Cursor.{Cursor}
-use Rattle.cell.specs.Cursor.{Placed}
 use Rattle.state.specs.declared.State.{State}
 use Rattle.state.specs.State.{desk}
 use Rattle.text.specs.Typed.{is_text, typed_of}

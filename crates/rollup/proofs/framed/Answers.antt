@@ -2,7 +2,6 @@
 use mathlib.Core.List.{List}
 use mathlib.Core.Path.{ap, ◌∙◌}
 use Prim.Native.Nat.{ℕ}
-use borrow.Author.Rules.{rules}
 use Rattle.state.specs.Style.{roll_up, styled}
 use Rattle.state.specs.State.{captions}
 use Rattle.window.specs.Window.{empty_outside_of}

@@ -2,7 +2,6 @@
 use mathlib.Core.Path.{ap, ◌∙◌}
 use native.Mathlib.Omega.{arith}
 use borrow.Author.Tests.{eq-eqb, ne_eqb}
-use borrow.Author.Rules.{rules}
 use Rattle.state.specs.Style.{cursors}
 use Rattle.state.specs.State.{captions}
 use Rattle.placing.specs.Placing.{moved_of}

@@ -1,6 +1,5 @@
 -- `ru` meets its contract. Assumes nothing.
 use mathlib.Core.Path.{ap, ◌∙◌}
-use borrow.Author.Rules.{rules}
 use Rattle.state.specs.State.{Captions, captions}
 use Rattle.rollup.specs.Rollup.{ru_of, framed_of}
 use Rattle.rollup.proofs.Laws.{opened_of_sound, opened_of_fits}

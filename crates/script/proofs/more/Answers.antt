@@ -1,5 +1,4 @@
 -- `more` meets its contract. Assumes nothing.
-use borrow.Author.Rules.{rules}
 use borrow.Author.Tests.{eq-eqb, ne_eqb}
 use Rattle.script.specs.Step.{step_at}
 use Rattle.script.proofs.LawsOfSteps.{does_on, stays_on}

@@ -1,10 +1,10 @@
 -- `reach` meets its contract. Assumes nothing.
 use mathlib.Core.Path.{◌≡◌, refl}
-use Prim.Native.Nat.{◌-◌, ◌/◌, ◌≤◌}
+use Prim.Native.Nat.{◌/◌}
 use native.Mathlib.Omega.{arith}
 use lib.ListN.{length}
 use borrow.Author.Rules.{rules}
-use Rattle.script.proofs.LawsOfSteps.{length-blank, Reaches, reach_none, reach_more}
+use Rattle.script.proofs.LawsOfSteps.{length-blank, reach_none, reach_more}
 use Rattle.script.proofs.reach.Goals as goal
 
 pub loop-k-init : goal.loop-k-init

@@ -1,10 +1,8 @@
 -- `reach` meets its contract. Assumes nothing.
-use mathlib.Core.Path.{◌≡◌, refl}
-use Prim.Native.Nat.{◌-◌, ◌/◌, ◌≤◌}
-use native.Mathlib.Omega.{arith}
+use mathlib.Core.Path.{◌≡◌}
+use Prim.Native.Nat.{◌-◌, ◌≤◌}
 use lib.ListN.{length}
-use borrow.Author.Rules.{rules}
-use Rattle.script.proofs.LawsOfSteps.{length-blank, Reaches, reach_none, reach_more}
+use Rattle.script.proofs.LawsOfSteps.{Reaches}
 use Rattle.script.proofs.reach.Given as goal
 
 abbrev pub invariant-loop-k : goal.invariant-loop-k

@@ -1,5 +1,4 @@
 -- `show_last` meets its contract. Assumes nothing.
-use borrow.Author.Rules.{rules}
 use Rattle.script.proofs.LawsOfSteps.{does_last, stays_last}
 use Rattle.script.proofs.show_last.Goals as goal
 

@@ -2,7 +2,6 @@
 use mathlib.Core.List.{List}
 use mathlib.Core.Path.{ap, sym, ◌∙◌}
 use Prim.Native.Nat.{ℕ}
-use borrow.Author.Rules.{rules}
 use Rattle.standing.proofs.Within.{start_fresh, start_slot, is_start_of, is_start_fresh}
 use Rattle.standing.specs.Calls.{is_start}
 use Rattle.state.specs.declared.State.{State}

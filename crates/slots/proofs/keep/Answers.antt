@@ -2,7 +2,6 @@
 use mathlib.Core.Path.{◌∙◌}
 use Prim.Native.Nat.{◌+◌, ◌-◌, ◌*◌, ◌/◌}
 use native.Mathlib.Omega.{arith}
-use borrow.Author.Rules.{rules}
 use Rattle.standing.proofs.Within.{keep_slot, keep_none}
 use Rattle.record.proofs.Laws.{length-record_of}
 use Rattle.record.specs.Layout.{record_of}

@@ -2,7 +2,6 @@
 use mathlib.Core.Path.{ap, ◌∙◌}
 use Prim.Native.Nat.{ℕ}
 use lib.ListN.{drop, replicate}
-use borrow.Author.Rules.{rules}
 use Rattle.record.specs.Layout.{record_of}
 use Rattle.state.specs.State.{desk}
 use Rattle.slots.proofs.Laws.{fresh_before_zeros}

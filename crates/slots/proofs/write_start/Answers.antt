@@ -3,7 +3,6 @@ use mathlib.Core.Path.{◌∙◌}
 use Prim.Native.Nat.{◌+◌, ◌-◌, ◌*◌}
 use native.Mathlib.Omega.{arith}
 use borrow.Rule.Slice.PartMut.{mid_len}
-use borrow.Author.Rules.{rules}
 use Rattle.facts.proofs.Over.{over_all}
 use Rattle.standing.proofs.Within.{start_fresh, start_slot}
 use Rattle.replay.specs.Captions.{caption_decoder}

@@ -1,5 +1,4 @@
 -- `choose` meets its contract. Assumes nothing.
-use borrow.Author.Rules.{rules}
 use Rattle.state.proofs.Laws.{pick-cursor}
 use Rattle.state.proofs.choose.Goals as goal
 

@@ -1,6 +1,5 @@
 -- `edm` meets its contract. Assumes nothing.
 use mathlib.Core.Path.{ap}
-use borrow.Author.Rules.{rules}
 use Rattle.state.specs.State.{captions}
 use Rattle.styles.specs.Styles.{edm_of}
 use Rattle.styles.proofs.edm.Goals as goal

@@ -1,6 +1,5 @@
 -- `enm` meets its contract. Assumes nothing.
 use mathlib.Core.Path.{ap}
-use borrow.Author.Rules.{rules}
 use Rattle.state.specs.State.{captions}
 use Rattle.styles.specs.Styles.{enm_of}
 use Rattle.styles.proofs.enm.Goals as goal

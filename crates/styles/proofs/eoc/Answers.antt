@@ -1,6 +1,5 @@
 -- `eoc` meets its contract. Assumes nothing.
 use mathlib.Core.Path.{ap}
-use borrow.Author.Rules.{rules}
 use Rattle.state.specs.Style.{pop_on, styled}
 use Rattle.state.specs.State.{captions}
 use Rattle.styles.specs.Styles.{eoc_of}

@@ -3,7 +3,6 @@ use mathlib.Core.Path.{ap}
 use mathlib.Core.Bool.{◌||◌}
 use Prim.Native.Nat.{ℕ}
 use lib.Dec.{leb, ltb}
-use borrow.Author.Rules.{rules}
 use Rattle.text.specs.Typed.{is_text}
 use Rattle.text.proofs.is_text.Goals as goal
 

@@ -1,8 +1,6 @@
 -- `typed` meets its contract. Assumes nothing.
 use mathlib.Core.Path.{ap}
 use Prim.Native.Nat.{◌+◌}
-use borrow.Author.Rules.{rules}
-use Rattle.state.specs.declared.Mode.{Mode}
 use Rattle.state.specs.State.{state}
 use Rattle.text.proofs.typed.Goals as goal
 

@@ -6,7 +6,6 @@ use native.Mathlib.Omega.{arith}
 use Prim.Native.Nat.{ℕ, ◌+◌, ◌*◌, ◌<◌, ◌≤◌}
 use lib.ListN.{length}
 use borrow.Rule.Slice.PartMut.{mid_len}
-use borrow.Author.Rules.{rules}
 use Rattle.facts.specs.Over.{over}
 use Rattle.facts.proofs.Over.{length-over}
 use Rattle.state.specs.declared.State.{State}

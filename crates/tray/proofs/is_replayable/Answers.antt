@@ -1,7 +1,6 @@
 -- `is_replayable` meets its contract. Assumes nothing.
 use mathlib.Core.Path.{refl}
 use Prim.Native.Nat.{◌/◌}
-use borrow.Author.Rules.{rules}
 use Rattle.standing.proofs.Within.{is_replayable_of}
 use Rattle.replay.specs.Captions.{caption_decoder}
 use Rattle.tray.proofs.is_replayable.Goals as goal

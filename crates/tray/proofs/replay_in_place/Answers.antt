@@ -2,7 +2,6 @@
 use mathlib.Core.Path.{ap, sym, subst, ◌∙◌}
 use native.Mathlib.Omega.{arith}
 use borrow.Rule.Slice.PartMut.{mid_len}
-use borrow.Author.Rules.{rules}
 use Rattle.standing.specs.Calls.{replay_of}
 use Rattle.decode.specs.Sound.{SoundDesk}
 use Rattle.state.specs.State.{Desk, desk}

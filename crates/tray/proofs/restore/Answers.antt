@@ -3,7 +3,6 @@ use mathlib.Core.List.{List}
 use mathlib.Core.Path.{◌≡◌, ap, refl, ◌∙◌}
 use Prim.Native.Nat.{ℕ, ◌-◌, ◌*◌, ◌/◌}
 use native.Mathlib.Omega.{arith}
-use borrow.Author.Rules.{rules}
 use Rattle.standing.proofs.Within.{is_replayable_start, is_replayable_formed, is_start_count, is_start_valid, restored_of_lem}
 use Rattle.standing.specs.Calls.{start_of, replay_of}
 use Rattle.state.specs.declared.State.{State}

@@ -2,7 +2,6 @@
 use Prim.Native.Nat.{◌*◌}
 use native.Mathlib.Omega.{arith}
 use lib.ListN.{length-set}
-use borrow.Author.Rules.{rules}
 use Rattle.facts.proofs.Over.{over-three}
 use Rattle.tray.proofs.write_act.Goals as goal
 

@@ -1,7 +1,6 @@
 -- `attribute` meets its contract. Assumes nothing.
 use mathlib.Core.Path.{ap, sym, subst, refl, ◌∙◌, ◌≡◌}
 use Prim.Native.Nat.{ℕ}
-use borrow.Author.Rules.{rules}
 use Rattle.state.proofs.Laws.{cursor_of_placed}
 use Rattle.state.specs.Ranges.{Sound}
 use Rattle.state.specs.Style.{cursor_of, with_cursor}

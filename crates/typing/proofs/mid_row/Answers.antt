@@ -1,6 +1,5 @@
 -- `mid_row` meets its contract. Assumes nothing.
 use mathlib.Core.Path.{ap, ◌∙◌}
-use borrow.Author.Rules.{rules}
 use Rattle.state.specs.State.{captions}
 use Rattle.cell.specs.declared.Cursor.{Cursor}
 use Rattle.cell.proofs.Laws.{is_pen-mid_row_pen_of}

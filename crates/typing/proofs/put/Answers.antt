@@ -1,6 +1,5 @@
 -- `put` meets its contract. Assumes nothing.
 use borrow.Author.Tests.{eq-eqb, ne_eqb}
-use borrow.Author.Rules.{rules}
 use Rattle.typing.specs.Typing.{passed_of, put_of}
 use Rattle.typing.proofs.put.Goals as goal
 

@@ -1,6 +1,5 @@
 -- `write` meets its contract. Assumes nothing.
 use mathlib.Core.Path.{ap, ◌∙◌}
-use borrow.Author.Rules.{rules}
 use Rattle.state.specs.Style.{with_cursor}
 use Rattle.state.specs.State.{captions}
 use Rattle.page.specs.Page.{write_cell_of}

@@ -2,7 +2,6 @@
 use mathlib.Core.Path.{ap, ◌∙◌}
 use native.Mathlib.Omega.{arith}
 use lib.ListN.{length}
-use borrow.Author.Rules.{rules}
 use Rattle.typing.proofs.Laws.{passed_of_keeps_placed, length_put_of, write_any_of_both}
 use Rattle.typing.proofs.write_two.Goals as goal
 

@@ -1,10 +1,9 @@
 -- `main` meets its contract. Assumes nothing.
 -- an array of so many zeros is that long, with no need to count them
-use mathlib.Core.Path.{sym, subst, ◌∙◌}
+use mathlib.Core.Path.{sym, subst}
 use Prim.Native.Nat.{ℕ, ◌≤◌}
 use lib.ListN.{length-replicate}
 use lib.Seq.{length-take-le}
-use borrow.Author.Rules.{rules}
 use Rattle.typist.proofs.main.Goals as goal
 
 pub slice_bounds-read_all-end : goal.slice_bounds-read_all-end

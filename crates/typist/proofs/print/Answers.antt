@@ -1,9 +1,8 @@
 -- `print` meets its contract. Assumes nothing.
-use mathlib.Core.Path.{◌≡◌, sym, ◌∙◌}
+use mathlib.Core.Path.{sym, ◌∙◌}
 use Prim.Native.Nat.{ℕ}
 use lib.ListN.{length-replicate}
 use lib.Seq.{length-take-le}
-use borrow.Author.Rules.{rules}
 use Rattle.typist.proofs.Laws.{Left, make_leaves, left_whole, left_none}
 use Rattle.typist.proofs.print.Goals as goal
 

@@ -1,13 +1,9 @@
 -- `are_rows` meets its contract. Assumes nothing.
-use mathlib.Core.Path.{◌≡◌, ap, ◌∙◌}
-use mathlib.Core.Bool.{◌&&◌}
-use Prim.Native.Nat.{ℕ, ◌+◌, ◌-◌, ◌*◌, ◌≤◌}
-use native.Mathlib.Omega.{arith}
+use mathlib.Core.Path.{◌≡◌}
+use Prim.Native.Nat.{◌+◌, ◌-◌, ◌*◌, ◌≤◌}
 use lib.ListN.{get_or}
-use borrow.Author.Rules.{rules}
 use Rattle.facts.specs.Every.{every}
-use Rattle.facts.proofs.Every.{every_more}
-use Rattle.valid.specs.Check.{is_counted, are_rows}
+use Rattle.valid.specs.Check.{is_counted}
 use Rattle.valid.proofs.are_rows.Given as goal
 
 abbrev pub invariant-loop-r : goal.invariant-loop-r

@@ -2,7 +2,6 @@
 use mathlib.Core.Path.{sym, ◌∙◌}
 use mathlib.Core.Bool.{◌&&◌}
 use lib.Dec.{eqb}
-use borrow.Author.Rules.{rules}
 use Rattle.valid.specs.Check.{is_counted}
 use Rattle.valid.proofs.Rows.{blank-is_counted}
 use Rattle.valid.proofs.is_counted.Goals as goal

@@ -1,7 +1,6 @@
 -- `is_cursor` meets its contract. Assumes nothing.
 use mathlib.Core.Bool.{Bool, ◌&&◌}
 use mathlib.Core.Path.{ap}
-use borrow.Author.Rules.{rules}
 use Rattle.valid.specs.Valid.{is_within, is_cursor}
 use Rattle.valid.proofs.is_cursor.Goals as goal
 

@@ -2,7 +2,6 @@
 use mathlib.Core.Bool.{◌&&◌}
 use mathlib.Core.Path.{ap, ◌∙◌}
 use Prim.Native.Nat.{ℕ, ◌*◌}
-use borrow.Author.Rules.{rules}
 use borrow.Author.Tests.{eq-eqb, ne_eqb}
 use Rattle.facts.specs.Every.{blank_of}
 use Rattle.valid.specs.Check.{is_framed}

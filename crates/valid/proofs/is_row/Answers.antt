@@ -1,7 +1,6 @@
 -- `is_row` meets its contract: an empty row is 32 cells that are allowed, and any other is tested cell by cell. Assumes nothing.
 use mathlib.Core.Path.{◌≡◌, ap, sym, ◌∙◌}
 use mathlib.Core.Bool.{◌&&◌}
-use Prim.Native.Nat.{◌-◌, ◌≤◌}
 use native.Mathlib.Omega.{arith}
 use borrow.Author.Rules.{rules}
 use Rattle.facts.specs.Every.{every}

@@ -1,14 +1,8 @@
 -- `is_row` meets its contract: an empty row is 32 cells that are allowed, and any other is tested cell by cell. Assumes nothing.
-use mathlib.Core.Path.{◌≡◌, ap, sym, ◌∙◌}
-use mathlib.Core.Bool.{◌&&◌}
+use mathlib.Core.Path.{◌≡◌}
 use Prim.Native.Nat.{◌-◌, ◌≤◌}
-use native.Mathlib.Omega.{arith}
-use borrow.Author.Rules.{rules}
 use Rattle.facts.specs.Every.{every}
-use Rattle.facts.proofs.Every.{every_more}
 use Rattle.valid.specs.Valid.{is_cell_at}
-use Rattle.valid.specs.Check.{is_row}
-use Rattle.valid.proofs.Rows.{blank-is_row}
 use Rattle.valid.proofs.is_row.Given as goal
 
 abbrev pub invariant-loop-j : goal.invariant-loop-j

@@ -1,7 +1,6 @@
 -- `is_valid_state` meets its contract. Assumes nothing.
 use mathlib.Core.Bool.{◌&&◌, ◌||◌}
 use lib.Dec.{eqb, leb}
-use borrow.Author.Rules.{rules}
 use Rattle.facts.proofs.Choice.{not_or}
 use Rattle.valid.specs.Valid.{is_within, is_valid_state}
 use Rattle.valid.proofs.is_valid_state.Goals as goal

@@ -1,6 +1,5 @@
 -- `finish` meets its contract. Assumes nothing.
 use mathlib.Core.Path.{refl}
-use borrow.Author.Rules.{rules}
 use Rattle.lines.proofs.Laws.{put_then}
 use Rattle.walk.specs.Walk.{finished_of, finish_text_of}
 use Rattle.walk.proofs.finish.Goals as goal

@@ -2,7 +2,6 @@
 use mathlib.Core.Bool.{Bool}
 use mathlib.Core.Path.{ap}
 use borrow.Author.Tests.{eq-eqb, ne_eqb}
-use borrow.Author.Rules.{rules}
 use Rattle.facts.specs.Choice.{pick}
 use Rattle.walk.proofs.LawsOfSteps.{refusal_none, refusal_some}
 use Rattle.walk.proofs.put_refusal.Goals as goal

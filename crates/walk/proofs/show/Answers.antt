@@ -7,7 +7,6 @@ use native.Mathlib.Omega.{arith}
 use Prim.Native.Nat.{◌+◌}
 use lib.Seq.{length-take-le}
 use lib.ListN.{take}
-use borrow.Author.Rules.{rules}
 use Rattle.lines.proofs.Laws.{put_nothing}
 use Rattle.facts.proofs.Over.{over_all}
 use Rattle.runs.proofs.Laws.{same_screen_of-is_same}

@@ -2,7 +2,6 @@
 use mathlib.Core.List.{List}
 use mathlib.Core.Path.{ap, ◌∙◌}
 use Prim.Native.Nat.{ℕ, ◌-◌}
-use borrow.Author.Rules.{rules}
 use Rattle.page.specs.Page.{empty_rows_of}
 use Rattle.window.specs.Window.{empty_outside_of}
 use Rattle.window.proofs.empty_outside.Goals as goal

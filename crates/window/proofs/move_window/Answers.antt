@@ -1,7 +1,6 @@
 -- `move_window` meets its contract. Assumes nothing.
 use mathlib.Core.Path.{◌∙◌}
 use Prim.Native.Nat.{◌+◌, ◌*◌}
-use borrow.Author.Rules.{rules}
 use Rattle.facts.specs.Over.{over, part}
 use Rattle.page.proofs.Laws.{empty_all_of_is}
 use Rattle.window.specs.Window.{move_of}

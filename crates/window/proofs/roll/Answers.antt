@@ -2,7 +2,6 @@
 use mathlib.Core.List.{List}
 use mathlib.Core.Path.{ap, ◌∙◌}
 use Prim.Native.Nat.{ℕ, ◌+◌, ◌-◌, ◌*◌}
-use borrow.Author.Rules.{rules}
 use Rattle.facts.specs.Over.{over, part}
 use Rattle.page.specs.Page.{empty_rows_of}
 use Rattle.window.specs.Window.{roll_of}

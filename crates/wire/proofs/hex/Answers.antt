@@ -1,6 +1,5 @@
 -- `hex` meets its contract. Assumes nothing.
 use native.Mathlib.Omega.{arith}
-use borrow.Author.Rules.{rules}
 use borrow.Author.Tests.{lt-ltb, le-ltb}
 use Rattle.wire.proofs.Tables.{shifted_hex_of}
 use Rattle.wire.proofs.hex.Goals as goal

@@ -3,7 +3,6 @@ use mathlib.Core.List.{[], ◌∷◌}
 use Prim.Native.Nat.{◌<◌}
 use native.Mathlib.Omega.{arith}
 use lib.Dec.{lit<}
-use borrow.Author.Rules.{rules}
 use Rattle.wire.specs.Line.{judge_of}
 use Rattle.wire.proofs.Lemmas.{line_digit}
 use Rattle.wire.proofs.judge.Goals as goal

@@ -1,7 +1,6 @@
 -- `read_line` meets its contract. Assumes nothing.
 use mathlib.Core.Path.{sym}
 use native.Mathlib.Omega.{arith}
-use borrow.Author.Rules.{rules}
 use Rattle.wire.proofs.Laws.{line_at_end, line_at_short, line_at_five, read_as}
 use Rattle.wire.proofs.read_line.Goals as goal
 

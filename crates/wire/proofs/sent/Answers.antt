@@ -1,10 +1,6 @@
 -- `sent` meets its contract. Assumes nothing.
-use mathlib.Core.Path.{sym, ap, ◌∙◌}
-use mathlib.Core.Bool.{Bool}
-use Prim.Native.Nat.{ℕ, ◌+◌}
-use borrow.Author.Rules.{rules}
-use Rattle.facts.specs.Choice.{pick}
-use Rattle.wire.specs.Byte.{is_good, low_seven, sent_of}
+use mathlib.Core.Path.{sym, ◌∙◌}
+use Rattle.wire.specs.Byte.{sent_of}
 use Rattle.wire.proofs.sent.Goals as goal
 
 pub returns-then-is_good : goal.returns-then-is_good

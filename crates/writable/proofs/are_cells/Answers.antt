@@ -1,10 +1,9 @@
 -- `are_cells` meets its contract: the rows are tested one behind the other. Assumes nothing.
-use mathlib.Core.Path.{◌≡◌, ap, ◌∙◌}
+use mathlib.Core.Path.{ap, ◌∙◌}
 use mathlib.Core.Bool.{◌&&◌}
-use Prim.Native.Nat.{ℕ, ◌-◌, ◌*◌, ◌≤◌}
+use Prim.Native.Nat.{ℕ, ◌*◌}
 use native.Mathlib.Omega.{arith}
 use borrow.Author.Rules.{rules}
-use Rattle.facts.specs.Every.{every}
 use Rattle.facts.proofs.Every.{every_more}
 use Rattle.valid.specs.Check.{is_row}
 use Rattle.writable.proofs.LawsOfChecks.{cells_joined}

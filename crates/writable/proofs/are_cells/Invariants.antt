@@ -1,13 +1,8 @@
 -- `are_cells` meets its contract: the rows are tested one behind the other. Assumes nothing.
-use mathlib.Core.Path.{◌≡◌, ap, ◌∙◌}
-use mathlib.Core.Bool.{◌&&◌}
-use Prim.Native.Nat.{ℕ, ◌-◌, ◌*◌, ◌≤◌}
-use native.Mathlib.Omega.{arith}
-use borrow.Author.Rules.{rules}
+use mathlib.Core.Path.{◌≡◌}
+use Prim.Native.Nat.{◌-◌, ◌*◌, ◌≤◌}
 use Rattle.facts.specs.Every.{every}
-use Rattle.facts.proofs.Every.{every_more}
 use Rattle.valid.specs.Check.{is_row}
-use Rattle.writable.proofs.LawsOfChecks.{cells_joined}
 use Rattle.writable.proofs.are_cells.Given as goal
 
 abbrev pub invariant-loop-row : goal.invariant-loop-row

@@ -1,12 +1,8 @@
 -- `is_row_writable` meets its contract: the cells are tested one behind the other against the row's pen, and the pen by itself. Assumes nothing.
-use mathlib.Core.Path.{◌≡◌, ap, ◌∙◌}
-use mathlib.Core.Bool.{◌&&◌}
+use mathlib.Core.Path.{◌≡◌}
 use Prim.Native.Nat.{◌-◌, ◌≤◌}
-use native.Mathlib.Omega.{arith}
-use borrow.Author.Rules.{rules}
 use Rattle.facts.specs.Every.{every}
-use Rattle.facts.proofs.Every.{every_more}
-use Rattle.writable.proofs.LawsOfChecks.{is_shared, row_joined}
+use Rattle.writable.proofs.LawsOfChecks.{is_shared}
 use Rattle.writable.proofs.is_row_writable.Given as goal
 
 abbrev pub invariant-loop-k : goal.invariant-loop-k

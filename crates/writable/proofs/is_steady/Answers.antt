@@ -1,5 +1,4 @@
 -- `is_steady` meets its contract. Assumes nothing.
-use borrow.Author.Rules.{rules}
 use Rattle.writable.proofs.LawsOfChecks.{steady_parts}
 use Rattle.writable.proofs.is_steady.Goals as goal
 

@@ -1,13 +1,8 @@
 -- `is_writable` meets its contract: the rows are tested one behind the other. Assumes nothing.
-use mathlib.Core.Path.{◌≡◌, ap, ◌∙◌}
-use mathlib.Core.Bool.{◌&&◌}
-use Prim.Native.Nat.{ℕ, ◌-◌, ◌*◌, ◌≤◌}
-use native.Mathlib.Omega.{arith}
-use borrow.Author.Rules.{rules}
+use mathlib.Core.Path.{◌≡◌}
+use Prim.Native.Nat.{◌-◌, ◌*◌, ◌≤◌}
 use Rattle.facts.specs.Every.{every}
-use Rattle.facts.proofs.Every.{every_more}
 use Rattle.tape.specs.Writable.{is_row_writable}
-use Rattle.writable.proofs.LawsOfChecks.{rows-joined}
 use Rattle.writable.proofs.is_writable.Given as goal
 
 abbrev pub invariant-loop-row : goal.invariant-loop-row

@@ -1,5 +1,4 @@
 -- `row_pen` meets its contract: a row without a character has the plain pen, any other that of its last. Assumes nothing.
-use borrow.Author.Rules.{rules}
 use Rattle.writable.proofs.LawsOfChecks.{row_pen_of_empty, row_pen_of_last}
 use Rattle.writable.proofs.row_pen.Goals as goal
 

@@ -1,5 +1,4 @@
 -- `code_before` meets its contract. Assumes nothing.
-use borrow.Author.Rules.{rules}
 use Rattle.writer.proofs.Laws.{code_inside, code_behind}
 use Rattle.writer.proofs.code_before.Goals as goal
 

@@ -1,5 +1,4 @@
 -- `item_at` meets its contract. Assumes nothing.
-use borrow.Author.Rules.{rules}
 use Rattle.writer.proofs.Laws.{item-joined}
 use Rattle.writer.proofs.item_at.Goals as goal
 

@@ -1,11 +1,11 @@
 -- `put_rest` meets its contract. Assumes nothing.
-use Prim.Native.Nat.{◌+◌, ◌-◌}
+use Prim.Native.Nat.{◌+◌}
 use native.Mathlib.Omega.{arith}
 use borrow.Author.Rules.{rules}
 use Rattle.tape.specs.Item.{bytes_of}
 use Rattle.tape.specs.Tape.{rest_of}
 use Rattle.tape.proofs.LawsOfSizes.{rest_end}
-use Rattle.items.proofs.LawsOfLaid.{Rest, rest_start, rest_room, rest_turn, rest_stop}
+use Rattle.items.proofs.LawsOfLaid.{rest_start, rest_room, rest_turn, rest_stop}
 use Rattle.writer.proofs.Laws.{items_more}
 use Rattle.writer.proofs.put_rest.Goals as goal
 

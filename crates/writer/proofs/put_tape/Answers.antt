@@ -1,6 +1,6 @@
 -- `put_tape` meets its contract. Assumes nothing.
 -- the text of each of the four calls
-use mathlib.Core.Path.{◌≡◌, sym}
+use mathlib.Core.Path.{sym}
 use mathlib.Core.List.{List, ◌++◌}
 use Prim.Native.Nat.{ℕ, ◌+◌, ◌≤◌}
 use lib.ListN.{length}

@@ -1,16 +1,14 @@
 -- `write_tape` meets its contract. Assumes nothing.
 use mathlib.Core.Path.{◌≡◌, sym, ◌∙◌}
 use mathlib.Core.Bool.{true}
-use Prim.Native.Nat.{◌≤◌}
 use native.Mathlib.Omega.{arith}
 use lib.Dec.{eqb, leb}
 use lib.ListN.{length}
 use borrow.Author.Tests.{eqb-true, leb-true}
-use borrow.Author.Rules.{rules}
 use Rattle.facts.proofs.Choice.{and_left, and_right}
-use Rattle.tape.specs.Writable.{are_cells, is_writable}
+use Rattle.tape.specs.Writable.{are_cells}
 use Rattle.tape.proofs.LawsOfSizes.{length-tape_of}
-use Rattle.writer.specs.Write.{is_channel, write_tape_of}
+use Rattle.writer.specs.Write.{write_tape_of}
 use Rattle.writer.proofs.Laws.{write_done}
 use Rattle.writer.proofs.write_tape.Goals as goal
 

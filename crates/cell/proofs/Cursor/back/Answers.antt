@@ -1,6 +1,5 @@
 -- `back` meets its contract. Assumes nothing.
 use borrow.Author.Tests.{le-leb, lt-leb}
-use borrow.Author.Rules.{rules}
 use Rattle.cell.specs.Cursor.{back_of}
 use Rattle.cell.proofs.Cursor.back.Goals as goal
 

@@ -2,7 +2,6 @@
 use mathlib.Core.Path.{◌∙◌}
 use Prim.Native.Nat.{◌*◌, ◌%◌}
 use lib.Bits.{bit_or}
-use borrow.Author.Rules.{rules}
 use Rattle.cell.specs.Pen.{pack_of, one}
 use Rattle.cell.proofs.Bits.{bool_byte_one, one_small, or_flags}
 use Rattle.cell.proofs.Pen.pack.Goals as goal

@@ -1,7 +1,6 @@
 -- `is_cell` meets its contract. Assumes nothing.
 use mathlib.Core.Bool.{◌&&◌}
 use lib.Dec.{eqb}
-use borrow.Author.Rules.{rules}
 use Rattle.facts.proofs.Choice.{not_or}
 use Rattle.cell.specs.Code.{is_cell}
 use Rattle.cell.proofs.content.is_cell.Goals as goal

@@ -1,6 +1,5 @@
 -- `preamble_column` meets its contract. Assumes nothing.
 use borrow.Author.Tests.{lt-ltb, le-ltb}
-use borrow.Author.Rules.{rules}
 use Rattle.cell.specs.Cursor.{preamble_column_of}
 use Rattle.cell.proofs.moves.preamble_column.Goals as goal
 

@@ -2,7 +2,6 @@
 use mathlib.Core.Path.{refl}
 use native.Mathlib.Omega.{arith}
 use borrow.Author.Tests.{lt-ltb, le-ltb}
-use borrow.Author.Rules.{rules}
 use Rattle.cell.specs.Pen.{after_mid_row}
 use Rattle.cell.proofs.pens.after_mid_row.Goals as goal
 

@@ -1,6 +1,5 @@
 -- `flash_pen` meets its contract. Assumes nothing.
 use mathlib.Core.Path.{ap, ◌∙◌}
-use borrow.Author.Rules.{rules}
 use Rattle.cell.specs.Pen.{pack_of, flashing}
 use Rattle.cell.specs.declared.Pen.{Pen}
 use Rattle.cell.proofs.pens.flash_pen.Goals as goal

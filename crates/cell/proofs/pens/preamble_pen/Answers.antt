@@ -1,6 +1,5 @@
 -- `preamble_pen` meets its contract. Assumes nothing.
 use mathlib.Core.Path.{ap, ◌∙◌}
-use borrow.Author.Rules.{rules}
 use Rattle.cell.specs.Pen.{pack_of}
 use Rattle.cell.proofs.pens.preamble_pen.Goals as goal
 

@@ -1,5 +1,4 @@
 -- `print_code` is safe: a proper mid-row code has its own second byte. Assumes nothing.
-use borrow.Author.Rules.{rules}
 use Rattle.codes_main.proofs.text.print_code.Goals as goal
 
 pub print_mid_row-requires : goal.print_mid_row-requires

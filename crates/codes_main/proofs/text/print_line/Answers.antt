@@ -1,6 +1,5 @@
 -- `print_line` is safe: every pair's code is proper. Assumes nothing.
 use native.Mathlib.Omega.{arith}
-use borrow.Author.Rules.{rules}
 use Rattle.codes.proofs.Laws.{code_of_proper}
 use Rattle.codes_main.proofs.text.print_line.Goals as goal
 

@@ -1,7 +1,6 @@
 -- `find` is safe and stops between `from` and the end. Assumes nothing.
 use Prim.Native.Nat.{◌-◌, ◌≤◌}
 use lib.ListN.{length}
-use borrow.Author.Rules.{rules}
 use Rattle.desk_main.proofs.line.find.Given as goal
 
 abbrev pub invariant-loop-i : goal.invariant-loop-i

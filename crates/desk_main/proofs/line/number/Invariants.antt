@@ -1,6 +1,5 @@
 -- `number` is safe: it reads within the line, and keeps the number below 2 to the 32. Assumes nothing.
 use Prim.Native.Nat.{◌-◌, ◌≤◌, ◌<◌}
-use borrow.Author.Rules.{rules}
 use Rattle.desk_main.proofs.line.number.Given as goal
 
 abbrev pub invariant-loop-i : goal.invariant-loop-i

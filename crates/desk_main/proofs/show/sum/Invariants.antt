@@ -1,7 +1,6 @@
 -- `sum` is safe and stays below the prime. Assumes nothing.
 use Prim.Native.Nat.{◌-◌, ◌≤◌, ◌<◌}
 use lib.ListN.{length}
-use borrow.Author.Rules.{rules}
 use Rattle.desk_main.proofs.show.sum.Given as goal
 
 abbrev pub invariant-loop-i : goal.invariant-loop-i

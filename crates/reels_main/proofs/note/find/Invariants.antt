@@ -1,5 +1,5 @@
 -- `find` is safe and stops between `from` and `to`. Assumes nothing.
-use Rattle.std.proofs.Common.{◌-◌, ◌≤◌, rules}
+use Rattle.std.proofs.Common.{◌-◌, ◌≤◌}
 use Rattle.reels_main.proofs.note.find.Given as goal
 
 abbrev pub invariant-loop-i : goal.invariant-loop-i

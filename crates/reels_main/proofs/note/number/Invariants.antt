@@ -1,5 +1,5 @@
 -- `number` is safe: it stays below 65,536. Assumes nothing.
-use Rattle.std.proofs.Common.{◌-◌, ◌<◌, rules}
+use Rattle.std.proofs.Common.{◌-◌, ◌<◌}
 use Rattle.reels_main.proofs.note.number.Given as goal
 
 abbrev pub invariant-loop-i : goal.invariant-loop-i

@@ -1,5 +1,5 @@
 -- `put` is safe and stays within the reel. Assumes nothing.
-use Rattle.std.proofs.Common.{◌≡◌, ◌-◌, ◌≤◌, length, rules}
+use Rattle.std.proofs.Common.{◌≡◌, ◌-◌, ◌≤◌, length}
 use Rattle.reels_main.proofs.note.put.Given as goal
 
 abbrev pub invariant-loop-i : goal.invariant-loop-i

@@ -1,5 +1,5 @@
 -- `write` is safe and ends: each part starts behind the one before it. Assumes nothing.
-use Rattle.std.proofs.Common.{◌≡◌, ◌-◌, ◌≤◌, length, rules}
+use Rattle.std.proofs.Common.{◌≡◌, ◌-◌, ◌≤◌, length}
 use Rattle.reels_main.proofs.note.write.Given as goal
 
 abbrev pub invariant-loop-at : goal.invariant-loop-at

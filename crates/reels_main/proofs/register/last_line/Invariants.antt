@@ -1,5 +1,5 @@
 -- `last_line` is safe and stops before the end. Assumes nothing.
-use Rattle.std.proofs.Common.{◌-◌, ◌≤◌, length, rules}
+use Rattle.std.proofs.Common.{◌≤◌, length}
 use Rattle.reels_main.proofs.register.last_line.Given as goal
 
 abbrev pub invariant-loop-at : goal.invariant-loop-at

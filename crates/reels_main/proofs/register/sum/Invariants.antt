@@ -1,5 +1,5 @@
 -- `sum` is safe and stays below the prime. Assumes nothing.
-use Rattle.std.proofs.Common.{◌-◌, ◌<◌, rules}
+use Rattle.std.proofs.Common.{◌-◌, ◌<◌}
 use Rattle.reels_main.proofs.register.sum.Given as goal
 
 abbrev pub invariant-loop-i : goal.invariant-loop-i

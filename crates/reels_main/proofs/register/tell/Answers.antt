@@ -1,6 +1,6 @@
 -- `tell` is safe and ends: each piece takes the walk on. Assumes nothing.
-use Rattle.std.proofs.Common.{◌<◌, ◌≤◌, length, sym, subst, arith, rules}
-use Rattle.walk.specs.Walk.{place, Fit, steps_of}
+use Rattle.std.proofs.Common.{sym, subst, arith, rules}
+use Rattle.walk.specs.Walk.{place, Fit}
 use Rattle.walk.proofs.LawsOfSteps.{start_fit}
 use Rattle.pieces.proofs.Laws.{handed_fit, handed_on}
 use Rattle.reels_main.proofs.register.tell.Goals as goal

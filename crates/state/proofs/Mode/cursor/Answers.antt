@@ -1,7 +1,6 @@
 -- `cursor` meets its contract. Assumes nothing.
-use mathlib.Core.Path.{◌≡◌, ap, sym, subst, ◌∙◌}
+use mathlib.Core.Path.{ap, sym, subst, ◌∙◌}
 use lib.Dec.{eqb}
-use borrow.Author.Rules.{rules}
 use Rattle.facts.specs.Choice.{pick}
 use Rattle.cell.specs.declared.Cursor.{Cursor}
 use Rattle.cell.specs.Cursor.{Placed}

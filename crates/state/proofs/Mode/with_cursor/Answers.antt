@@ -1,5 +1,4 @@
 -- `with_cursor` meets its contract. Assumes nothing.
-use borrow.Author.Rules.{rules}
 use Rattle.state.specs.Style.{cursors, with_cursor}
 use Rattle.state.proofs.Mode.with_cursor.Goals as goal
 

@@ -1,6 +1,5 @@
 -- `fresh` meets its contract. Assumes nothing.
 use mathlib.Core.Path.{ap}
-use borrow.Author.Rules.{rules}
 use Rattle.state.specs.State.{state}
 use Rattle.state.proofs.State.fresh.Goals as goal
 

@@ -1,7 +1,6 @@
 -- `select` meets its contract. Assumes nothing.
 use mathlib.Core.Path.{ap}
 use Prim.Native.Nat.{◌+◌}
-use borrow.Author.Rules.{rules}
 use Rattle.state.specs.State.{state}
 use Rattle.state.specs.declared.State.{State}
 use Rattle.state.proofs.State.select.Goals as goal

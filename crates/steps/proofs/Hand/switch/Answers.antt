@@ -3,7 +3,6 @@ use mathlib.Core.Path.{refl}
 use Prim.Native.Nat.{ℕ}
 use native.Mathlib.Omega.{arith}
 use lib.Dec.{leb}
-use borrow.Author.Rules.{rules}
 use borrow.Author.Tests.{leb-true}
 use Rattle.facts.proofs.Choice.{and_left, and_right}
 use Rattle.steps.specs.Take.{Went, take, switch_of}

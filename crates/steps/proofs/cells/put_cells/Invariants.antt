@@ -1,9 +1,7 @@
 -- `put_cells` meets its contract. Assumes nothing.
-use native.Mathlib.Omega.{arith}
 use Prim.Native.Nat.{◌-◌, ◌≤◌}
-use lib.ListN.{length, length-set}
-use borrow.Author.Rules.{rules}
-use Rattle.steps.proofs.LawsOfCells.{Typed, typed_start, typed_more, typed_all}
+use lib.ListN.{length}
+use Rattle.steps.proofs.LawsOfCells.{Typed}
 use Rattle.steps.proofs.cells.put_cells.Given as goal
 
 abbrev pub invariant-loop-i : goal.invariant-loop-i

@@ -1,7 +1,6 @@
 -- `put_row` meets its contract. Assumes nothing.
 use native.Mathlib.Omega.{arith}
 use lib.ListN.{length}
-use borrow.Author.Rules.{rules}
 use Rattle.steps.specs.Take.{typed_of}
 use Rattle.steps.proofs.LawsOfCells.{Place, place_of}
 use Rattle.steps.proofs.cells.put_row.Goals as goal

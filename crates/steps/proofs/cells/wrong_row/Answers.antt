@@ -1,6 +1,5 @@
 -- `wrong_row` meets its contract. Assumes nothing.
 use mathlib.Core.Path.{sym, ◌∙◌}
-use borrow.Author.Rules.{rules}
 use Rattle.steps.specs.Take.{wrong_row_of}
 use Rattle.steps.proofs.cells.wrong_row.Goals as goal
 

@@ -1,5 +1,4 @@
 -- `plan` meets its contract. Assumes nothing.
-use borrow.Author.Rules.{rules}
 use Rattle.steps.proofs.LawsOfPlan.{plan_kept, plan_long, plan_early}
 use Rattle.steps.proofs.cues.plan.Goals as goal
 

@@ -1,5 +1,4 @@
 -- `wait` meets its contract. Assumes nothing.
-use borrow.Author.Rules.{rules}
 use Rattle.steps.proofs.LawsOfHand.{fit_same}
 use Rattle.steps.proofs.LawsOfTimes.{fit_more, wait_room, wait_goes, wait_stopped}
 use Rattle.steps.proofs.cues.wait.Goals as goal

@@ -1,7 +1,6 @@
 -- `named` meets its contract. Assumes nothing.
 use Prim.Native.Nat.{◌+◌, ◌-◌, ◌≤◌}
 use lib.ListN.{length}
-use borrow.Author.Rules.{rules}
 use Rattle.texts.proofs.words.named.Given as goal
 
 abbrev pub invariant-loop-at : goal.invariant-loop-at

@@ -1,7 +1,6 @@
 -- `number` meets its contract. Assumes nothing.
 use Prim.Native.Nat.{◌-◌, ◌≤◌}
 use lib.ListN.{length}
-use borrow.Author.Rules.{rules}
 use Rattle.texts.proofs.words.number.Given as goal
 
 abbrev pub invariant-loop-i : goal.invariant-loop-i

@@ -1,7 +1,6 @@
 -- `say_entry` meets its contract. Assumes nothing.
 use Prim.Native.Nat.{◌+◌, ◌-◌, ◌≤◌}
 use lib.ListN.{length}
-use borrow.Author.Rules.{rules}
 use Rattle.typist.proofs.say.say_entry.Given as goal
 
 abbrev pub invariant-loop-at : goal.invariant-loop-at
