@@ -88,6 +88,7 @@ fn channel_one_code(a: u8, b: u8) -> Code
 }
 
 // 11h and b below 40h.
+#[tactic(auto, unfolding(crate::specs::Codes::mid_row_or_special_of))]
 fn mid_row_or_special(b: u8) -> Code
     requires { b ≤ 0x3f }
     ensures { result ≡ mid_row_or_special_of b }

@@ -151,7 +151,7 @@ fn play(out: &impl Print, script: &[u8], desk: &mut [u8], log: &mut [u8], tray: 
 // Each buffer has a byte more than the desk asks for, so that a call can be lent one too many.
 fn main(rt: HostRuntime) {
     let mut script = [0u8; 65536];
-    let n = input::read_all(&rt, &rt.stderr(), &mut script, "cannot read the script").n;
+    let n = input::read_all(&rt, &rt.stderr(), &mut script, b"cannot read the script").n;
     let mut desk = [0u8; 1985];
     let mut log = [0u8; 48001];
     let mut tray = [0u8; 31745];

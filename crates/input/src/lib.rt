@@ -15,12 +15,19 @@ pub struct Got {
 }
 
 // Says what failed, and why, on what is standard error in a program.
-pub fn fail(err: &impl Print, what: &str, error: io::Error) {
-    let _ = println!(err; "{what}: {error}");
+pub fn fail(err: &impl Print, what: &[u8], error: io::Error) {
+    let _ = err.write_all(what);
+    let _ = println!(err; ": {error}");
 }
 
 // One read, behind the first `n` bytes. At the end of the input none come. Where it fails, `what` is said with the reason.
-fn read_more<R: Read, E: Print>(from: &mut R, err: &E, into: &mut [u8], n: usize, what: &str) -> Got
+fn read_more<R: Read, E: Print>(
+    from: &mut R,
+    err: &E,
+    into: &mut [u8],
+    n: usize,
+    what: &[u8],
+) -> Got
     requires { n ≤ length into.old }
     ensures { (result.n ≤ length into.old) × (result.n ≡ n + result.came) }
 {
@@ -42,7 +49,7 @@ fn read_more<R: Read, E: Print>(from: &mut R, err: &E, into: &mut [u8], n: usize
 }
 
 // Read after read, until the input ends, the buffer is full or a read fails.
-pub fn read_all<R: Input, E: Print>(rt: &R, err: &E, into: &mut [u8], what: &str) -> Got
+pub fn read_all<R: Input, E: Print>(rt: &R, err: &E, into: &mut [u8], what: &[u8]) -> Got
     ensures { result.n ≤ length into.old }
 {
     let mut from = rt.reader();

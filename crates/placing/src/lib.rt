@@ -11,6 +11,7 @@ use cell::Cursor;
 use state::{Mode, ROLL_UP};
 
 // At column 1 nothing; else one left, and that cell is emptied.
+#[tactic(auto, unfolding(crate::specs::Placing::bs_of))]
 pub fn bs(mode: Mode, cells: &mut [u8]) -> Mode
     requires { Sound (captions mode cells.old) }
     ensures { captions result cells.new ≡ bs_of (captions mode cells.old) }

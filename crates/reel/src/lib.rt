@@ -1,5 +1,5 @@
 // A reader that walks a lent reel from its first line without copying it.
-// `new`, `next`, `moved` and `line` are thin over a slice and a number, and are proved by hand; `after` and `wire::read_line` do the work and are covered.
+// `new`, `next`, `moved` and `line` are thin over a slice and a number; `after` and `wire::read_line` do the work.
 #![tactic(auto)]
 
 ghost use Rattle.std.specs.Prelude.{◌≡◌};

@@ -33,6 +33,6 @@ fn play(out: &impl Print, script: &[u8]) {
 
 fn main(rt: HostRuntime) {
     let mut script = [0u8; 65536];
-    let n = input::read_all(&rt, &rt.stderr(), &mut script, "cannot read the script").n;
+    let n = input::read_all(&rt, &rt.stderr(), &mut script, b"cannot read the script").n;
     play(&rt, &script[..n]);
 }

@@ -25,7 +25,7 @@ fn send<O: Print, E: Print>(to: &O, err: &E, sent: Sent, piece: &[u8]) -> Sent
             failed: false,
         },
         Err(error) => {
-            input::fail(err, "cannot write the register", error);
+            input::fail(err, b"cannot write the register", error);
             Sent {
                 n: sent.n,
                 failed: true,
@@ -58,7 +58,7 @@ fn print<O: Print, E: Print>(to: &O, err: &E, reel: &[u8]) -> Sent
 // 16,000 lines have 80,000 bytes: one byte more is refused, so no more is read.
 fn main(rt: HostRuntime) {
     let mut reel = [0u8; 80001];
-    let got = input::read_all(&rt, &rt.stderr(), &mut reel, "cannot read the reel");
+    let got = input::read_all(&rt, &rt.stderr(), &mut reel, b"cannot read the reel");
     let n = got.n;
     if !got.failed {
         print(&rt.stdout(), &rt.stderr(), &reel[..n]);

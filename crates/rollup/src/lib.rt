@@ -21,6 +21,7 @@ fn plain_in(row: Row) -> Cursor
 }
 
 // Mark clear: the displayed memory is emptied, and the base row is 15. Mark set: the window moves where depth n does not fit at its base row.
+#[tactic(auto, unfolding(crate::specs::Rollup::opened_of))]
 fn opened(mut mode: Mode, cells: &mut [u8], n: u8) -> Mode
     requires { Sound (captions mode cells.old) × (n ≤ 4) }
     ensures { captions result cells.new ≡ opened_of (captions mode cells.old) n }

@@ -147,6 +147,7 @@ impl Mode {
     }
 
     // Where the memory starts that the style works on.
+    #[tactic(auto, unfolding(crate::specs::Style::memory_of))]
     pub fn memory(self) -> usize
         ensures { (result ≡ memory_of self) × (result ≤ 960) }
     {

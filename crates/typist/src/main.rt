@@ -30,7 +30,7 @@ fn send_reel<O: Print, E: Print>(out: &O, err: &E, reel: &[u8]) -> Sent
             failed: false,
         },
         Err(error) => {
-            input::fail(err, "cannot write the reel", error);
+            input::fail(err, b"cannot write the reel", error);
             Sent { n: 0, failed: true }
         }
     }
@@ -87,7 +87,7 @@ fn main(rt: HostRuntime) {
     let err = rt.stderr();
     let mut text = [0u8; 262145];
     let mut script = [0u8; 327680];
-    let got = input::read_all(&rt, &err, &mut text, "cannot read the text");
+    let got = input::read_all(&rt, &err, &mut text, b"cannot read the text");
     let n = got.n;
     if got.failed {
         return;

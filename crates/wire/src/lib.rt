@@ -37,6 +37,7 @@ pub fn low_seven(byte: u8) -> u8
 }
 
 // A value as it is sent: with the parity bit that makes it good.
+#[tactic(auto, unfolding(crate::specs::Byte::sent_of))]
 pub fn sent(value: u8) -> u8
     ensures { result ≡ sent_of value }
 {
@@ -105,6 +106,7 @@ pub fn read_line(reel: &[u8], at: usize) -> Line
 }
 
 // The frame line of a pair into a buffer of five bytes; any other buffer stays as it is.
+#[tactic(auto, using(crate::proofs::Lemmas::set_five), unfolding(crate::specs::Written::write_line_of, crate::specs::Line::line_of))]
 pub fn write_line(out: &mut [u8], first: u8, second: u8) -> Written
     ensures { outcome (number_of_written result) (value_of_written result) out.new ≡ write_line_of out.old first second }
 {

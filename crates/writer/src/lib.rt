@@ -111,6 +111,7 @@ fn put_tape(out: &mut [u8], n: usize, channel: u8, memory: &[u8]) -> usize
 }
 
 // The tape of a screen of 960 bytes on a channel, into a buffer of 4,096; its bytes past the pairs stay, and on a refusal all of them.
+#[tactic(auto, unfolding(crate::specs::Write::write_tape_of))]
 pub fn write_tape(memory: &[u8], channel: u8, out: &mut [u8]) -> Answer
     ensures { outcome (number_of_tape result) (value_of_tape result) out.new ≡ write_tape_of memory.now channel out.old }
 {

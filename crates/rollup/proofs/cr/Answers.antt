@@ -18,7 +18,7 @@ pub returns-then-style-eq-ROLL_UP : goal.returns-then-style-eq-ROLL_UP
 unfolding cr_of
 returns-then-style-eq-ROLL_UP c =
     let m = c.args.mode in
-    rw (eq-eqb m.style 1 c.if-style-eq-ROLL_UP.true) (λ i. captions (cursors m (c.plain_in-mode.ensures i) m.pop m.paint) (c.roll.ensures i))
+    rw (eq-eqb m.style 1 c.if-style-eq-ROLL_UP.true) (cc)
 
 pub returns : goal.returns
 unfolding cr_of

@@ -9,12 +9,6 @@ use Rattle.rollup.specs.Rollup.{opened_of}
 use Rattle.rollup.proofs.Laws.{marked, deepened_placed, deepened_fits}
 use Rattle.rollup.proofs.opened.Goals as goal
 
-pub returns-then-mode-eq0 : goal.returns-then-mode-eq0
-unfolding opened_of
-returns-then-mode-eq0 c =
-    let m = c.args.mode in
-    rw (eq-eqb m.mark 0 c.if-mode-eq0.true) (λ i. captions (cursors m (c.plain_in-mode.ensures i) m.pop m.paint) (c.empty_all.ensures i))
-
 pub moved-requires : goal.moved-requires
 moved-requires c =
     let a = c.args in

@@ -56,23 +56,3 @@ returns-then-fits c =
     let cells : are_cells c.args.memory.now ≡ true = sym c.are_cells.ensures ∙ c.if-are_cells.true in
     let a = c.args in
     write_done a.memory.now a.out.now a.channel c.if-memory-out.true cells c.if-channel.true (sym c.is_writable-fits.ensures ∙ c.if-fits.true) c.put_tape.ensures
-
-pub returns-then-channel : goal.returns-then-channel
-unfolding write_tape_of
-returns-then-channel c =
-    let cells : are_cells c.args.memory.now ≡ true = sym c.are_cells.ensures ∙ c.if-are_cells.true in
-    rw (c.if-memory-out.true, cells, c.if-channel.true, sym c.is_writable-fits.ensures ∙ c.if-fits.false)
-
-pub returns-then-are_cells : goal.returns-then-are_cells
-unfolding write_tape_of
-returns-then-are_cells c =
-    let cells : are_cells c.args.memory.now ≡ true = sym c.are_cells.ensures ∙ c.if-are_cells.true in
-    rw (c.if-memory-out.true, cells, c.if-channel.false)
-
-pub returns-then-memory-out : goal.returns-then-memory-out
-unfolding write_tape_of
-returns-then-memory-out c = rw (c.if-memory-out.true, sym c.are_cells.ensures ∙ c.if-are_cells.false)
-
-pub returns : goal.returns
-unfolding write_tape_of
-returns c = rw c.if-memory-out.false
