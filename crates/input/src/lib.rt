@@ -4,7 +4,7 @@
 ghost use Rattle.std.specs.Prelude.{◌≡◌, ◌+◌, ◌≤◌, length};
 
 use std::io;
-use std::io::Read;
+use std::io::{Read, Write};
 
 // How many bytes there are, how many of them the last read brought, and whether it failed.
 #[derive(Clone, Copy)]
@@ -14,10 +14,31 @@ pub struct Got {
     pub failed: bool,
 }
 
-// Says what failed, and why, on what is standard error in a program.
+// How long the words of an error are: its number stands behind them in round brackets, and zeros fill up the rest.
+fn count_words(text: &[u8]) -> usize
+    ensures { result ≤ length text.now }
+{
+    for (i, byte) in text.iter().enumerate() {
+        if *byte == b'(' {
+            return i.saturating_sub(1);
+        }
+        if *byte == 0 {
+            return i;
+        }
+    }
+    text.len()
+}
+
+// Says what failed, and why, on what is standard error in a program: a line, and no number in it.
 pub fn fail(err: &impl Print, what: &[u8], error: io::Error) {
+    let mut text = [0u8; 256];
+    let mut rest = &mut text[..];
+    let _ = write!(rest, "{error}");
+    let n = count_words(&text);
     let _ = err.write_all(what);
-    let _ = println!(err; ": {error}");
+    let _ = err.write_all(b": ");
+    let _ = err.write_all(&text[..n]);
+    let _ = err.write_all(b"\n");
 }
 
 // One read, behind the first `n` bytes. At the end of the input none come. Where it fails, `what` is said with the reason.
