@@ -11,8 +11,6 @@ use Rattle.items.proofs.LawsOfLaid.{laid_none, laid_then, room_front, room_rest}
 use Rattle.writer.proofs.Laws.{lead_inside, row_none, row_some}
 use Rattle.writer.proofs.put_row.Goals as goal
 
--- the row in two parts: its preamble, and its cells
-
 pub returns-then-end-eq0 : goal.returns-then-end-eq0
 returns-then-end-eq0 c =
     let a = c.args in
@@ -24,6 +22,7 @@ preamble_item-item-requires c =
     let lead = c.lead.ensures.0 in
     (search rules, omega (arith, lead_inside a.memory.now (a.row * 64) (λ z. c.if-end-eq0.false (c.end-end.ensures.0 ∙ z))))
 
+-- the row in two parts: its preamble, and its cells
 pub put_item-m-requires : goal.put_item-m-requires
 put_item-m-requires c =
     let front : List ℕ = bytes_of c.args.channel c.preamble_item-item.result in

@@ -12,7 +12,6 @@ use Rattle.writer.proofs.Laws.{tape_parts}
 use Rattle.writer.proofs.put_tape.Goals as goal
 
 -- there is room for all, for the three before EOC, and for the two before the rows
-
 pub put_item-opened-requires : goal.put_item-opened-requires
 put_item-opened-requires c =
     let rcl_bytes : List ℕ = bytes_of c.args.channel rcl_item in

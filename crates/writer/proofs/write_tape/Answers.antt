@@ -13,7 +13,6 @@ use Rattle.writer.proofs.Laws.{write_done}
 use Rattle.writer.proofs.write_tape.Goals as goal
 
 -- what the two tests of the screen say, at the places behind them
-
 pub are_cells-requires : goal.are_cells-requires
 are_cells-requires c =
     let sized : (length c.args.memory.now ≡ 960) × (length c.args.out.now ≡ 4096) =
