@@ -1,5 +1,5 @@
-// The desk for programs in C and Rust: each exported function is thin over one call, and packs its answer into one number.
-// A slice passes as pointer and length. As in `desk`, nothing is asked of the caller, and a refusal leaves every lent byte alone.
+// The desk for programs in C and Rust: each function that `loikrasun_c` exports is thin over one call, and packs its answer into one number.
+// As in `desk`, nothing is asked of the caller, and a refusal leaves every lent byte alone.
 #![tactic(auto)]
 
 ghost use Rattle.std.specs.Prelude.{◌≡◌};
@@ -66,16 +66,14 @@ fn pack_tape(answer: writer::Answer) -> u32
     }
 }
 
-#[unsafe(no_mangle)]
-pub extern "C" fn loikrasun_open(desk: &mut [u8], log: &mut [u8], tray: &mut [u8]) -> u32
+pub fn loikrasun_open(desk: &mut [u8], log: &mut [u8], tray: &mut [u8]) -> u32
     ensures { ended result desk.new log.new tray.new
         ≡ ended_of (open_of caption_decoder desk.old log.old tray.old) }
 {
     pack_answer(desk::open(desk, log, tray))
 }
 
-#[unsafe(no_mangle)]
-pub extern "C" fn loikrasun_take(
+pub fn loikrasun_take(
     desk: &mut [u8],
     log: &mut [u8],
     tray: &mut [u8],
@@ -88,37 +86,28 @@ pub extern "C" fn loikrasun_take(
     pack_answer(desk::take(desk, log, tray, first, second))
 }
 
-#[unsafe(no_mangle)]
-pub extern "C" fn loikrasun_select(
-    desk: &mut [u8],
-    log: &mut [u8],
-    tray: &mut [u8],
-    channel: u8,
-) -> u32
+pub fn loikrasun_select(desk: &mut [u8], log: &mut [u8], tray: &mut [u8], channel: u8) -> u32
     ensures { ended result desk.new log.new tray.new
         ≡ ended_of (select_of caption_decoder desk.old log.old tray.old channel) }
 {
     pack_answer(desk::select(desk, log, tray, channel))
 }
 
-#[unsafe(no_mangle)]
-pub extern "C" fn loikrasun_back(desk: &mut [u8], log: &mut [u8], tray: &mut [u8], k: u32) -> u32
+pub fn loikrasun_back(desk: &mut [u8], log: &mut [u8], tray: &mut [u8], k: u32) -> u32
     ensures { ended result desk.new log.new tray.new
         ≡ ended_of (back_of caption_decoder desk.old log.old tray.old k) }
 {
     pack_answer(desk::back(desk, log, tray, k))
 }
 
-#[unsafe(no_mangle)]
-pub extern "C" fn loikrasun_row(desk: &[u8], row: u8) -> u32
+pub fn loikrasun_row(desk: &[u8], row: u8) -> u32
     ensures { result ≡ packed_of (row_of desk.now row) }
 {
     pack_answer(desk::row(desk, row))
 }
 
 // What the view hands back, copied over `out`; on refusal that is an empty part, and `out` stays as it is.
-#[unsafe(no_mangle)]
-pub extern "C" fn loikrasun_view(desk: &[u8], out: &mut [u8]) -> u32
+pub fn loikrasun_view(desk: &[u8], out: &mut [u8]) -> u32
     ensures { filled result out.new ≡ viewed_of desk.now out.old }
 {
     if out.len() == 960 {
@@ -128,24 +117,21 @@ pub extern "C" fn loikrasun_view(desk: &[u8], out: &mut [u8]) -> u32
     pack(1, 0)
 }
 
-#[unsafe(no_mangle)]
-pub extern "C" fn loikrasun_line_write(out: &mut [u8], first: u8, second: u8) -> u32
+pub fn loikrasun_line_write(out: &mut [u8], first: u8, second: u8) -> u32
     ensures { filled result out.new ≡ written_of (write_line_of out.old first second) }
 {
     pack_written(wire::write_line(out, first, second))
 }
 
 // The pair of the reel's first line; an empty reel has none and gives 0.
-#[unsafe(no_mangle)]
-pub extern "C" fn loikrasun_line_read(reel: &[u8]) -> u32
+pub fn loikrasun_line_read(reel: &[u8]) -> u32
     ensures { result ≡ packed_of (given_line (line_at reel.now 0)) }
 {
     pack_line(wire::read_line(reel, 0))
 }
 
 // The tape of a screen on a channel, from the first byte of `out` on; the value is how many bytes it has.
-#[unsafe(no_mangle)]
-pub extern "C" fn loikrasun_tape(memory: &[u8], channel: u8, out: &mut [u8]) -> u32
+pub fn loikrasun_tape(memory: &[u8], channel: u8, out: &mut [u8]) -> u32
     ensures { filled result out.new ≡ written_of (write_tape_of memory.now channel out.old) }
 {
     pack_tape(writer::write_tape(memory, channel, out))
