@@ -93,6 +93,11 @@ end_of_only s at n end f =
     (λ l. g.filled (end_of s at n - 1) (omega arith) (f.empty (end_of s at n - 1) (omega arith) (omega arith)))
     (λ l. f.filled (end - 1) (omega arith) (g.empty (end - 1) (omega arith) (omega arith)))
 
+-- the last cell before k is not empty, and those from k on are
+pub end_of_here : (s : List ℕ) (at n k : ℕ) → k ≤ n → ((j : ℕ) → k ≤ j → j < n → code_at s at j ≡ 0) → (code_at s at (k - 1) ≡ 0 → ⊥) → k ≡ end_of s at n
+end_of_here s at n k high empty filled =
+    end_of_only s at n k (record { high = high; empty = empty; filled = λ j e z. let same : j ≡ k - 1 = omega arith in filled (rw (sym same) z) })
+
 -- with no non-empty cell there is nothing before the end
 pub end_of_none : (s : List ℕ) (at n : ℕ) → ((k : ℕ) → k < n → code_at s at k ≡ 0) → end_of s at n ≡ 0
 end_of_none s at n h = sym (end_of_only s at n 0 (record { high = omega arith; empty = λ k low. h k; filled = λ k e. absurd (omega arith) }))

@@ -76,6 +76,7 @@ pub fn lead(screen: &[u8], at: usize) -> usize
 
 // How many stand up to its last non-empty one; 0 where there is none. Most rows of a screen are empty, and such a row is passed over as a
 // whole; in the others the last cell is come to from the back.
+#[tactic(auto, using(crate::proofs::Printed::end_of_here))]
 pub fn end(screen: &[u8], at: usize) -> usize
     requires { at + 64 ≤ length screen.now }
     ensures { (result ≡ end_of screen.now at 32) × (result ≤ 32) }

@@ -5,7 +5,7 @@ use native.Mathlib.Omega.{arith}
 use borrow.Author.Rules.{rules}
 use Rattle.facts.proofs.Every.{blank_at}
 use Rattle.facts.proofs.Choice.{below_cases}
-use Rattle.lines.proofs.Printed.{end_of_only, end_of_none}
+use Rattle.lines.proofs.Printed.{end_of_none}
 use Rattle.lines.proofs.end.Goals as goal
 
 pub returns-then-is_blank : goal.returns-then-is_blank
@@ -16,13 +16,6 @@ returns-then-is_blank c =
 
 pub loop-k-init : goal.loop-k-init
 loop-k-init c = (search rules, λ j low h. absurd (omega arith))
-
-pub returns-then-screen-at-ne0 : goal.returns-then-screen-at-ne0
-returns-then-screen-at-ne0 c =
-    let a = c.args in
-    let p = c.loop-k in
-    let high = p.invariant.0 in
-    (end_of_only a.screen.now a.at 32 p.k (record { high = high; empty = p.invariant.1; filled = λ k e z. let same : k ≡ p.k - 1 = omega arith in c.if-screen-at-ne0.true (rw same at z) }), high)
 
 pub loop-k-preserved : goal.loop-k-preserved
 loop-k-preserved c =
