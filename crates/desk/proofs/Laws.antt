@@ -1,8 +1,9 @@
 -- From an act on the three buffers to the call that gave it, and the calls that only look. Assumes nothing.
-use mathlib.Core.Path.{◌≡◌, refl, ap, sym, ◌∙◌}
+use mathlib.Core.Path.{◌≡◌, refl, ap, sym, subst, ◌∙◌}
 use mathlib.Core.Bool.{Bool, true, false}
 use mathlib.Core.List.{List, [], ◌∷◌}
-use Prim.Native.Nat.{ℕ, ◌-◌, ◌*◌, ◌<◌}
+use Prim.Native.Nat.{ℕ, ◌-◌, ◌*◌, ◌<◌, ◌≤◌}
+use lib.ListN.{length}
 use borrow.Author.Tests.{lt-ltb}
 use lib.Dec.{eqb, leb, ltb}
 use Rattle.facts.specs.Choice.{pick}
@@ -11,14 +12,23 @@ use Rattle.state.specs.declared.State.{State}
 use Rattle.decode.specs.Step.{taken_of}
 use Rattle.record.specs.Layout.{state_of, read_of, record_of}
 use Rattle.valid.specs.Valid.{is_valid}
+use Rattle.valid.proofs.Laws.{is_valid_sound}
 use Rattle.standing.specs.Acts.{Act, is_allowed, entry_of, act_of}
 use Rattle.standing.specs.Calls.{Buffers, three, Given, Outcome, done, need, is_fit, keep_of, open_of, give_of, take_of, acted_of, is_replayable, stepped_of, back_of}
-use Rattle.standing.proofs.Ways.{give_done}
+use Rattle.standing.proofs.Ways.{Sized, is_sized_sizes, give_done}
 use Rattle.replay.specs.Captions.{step_of, count_of, caption_decoder}
 use Rattle.tray.specs.Given.{Given as Acted}
 use Rattle.desk.specs.declared.Answer.{Answer}
 use Rattle.desk.specs.declared.Answer.TheVariants.{Done, WrongLength, NoSuch, Full, TooFar, Invalid}
 use Rattle.desk.specs.Numbers.{given}
+
+-- buffers that fit have the three lengths
+pub lent_sized : (d l t : List ℕ) → is_fit caption_decoder (three d l t) ≡ true → Sized caption_decoder (length d) (length l) (length t)
+lent_sized d l t fit = is_sized_sizes caption_decoder (length d) (length l) (length t) fit
+
+-- no more acts stand than can
+pub acts_high : (d : List ℕ) {s : State} → is_valid d ≡ true → s ≡ state_of d → s.acts ≤ 16000
+acts_high d valid read = subst (λ (s : State). s.acts ≤ 16000) (sym read) (is_valid_sound d valid).acts
 
 module _ (d l t : List ℕ) (fit : is_fit caption_decoder (three d l t) ≡ true) (valid : is_valid d ≡ true) (s : State) (read : s ≡ state_of d) (room : s.acts < 16000)
     (kind first second : ℕ) (a : Act) (is : a ≡ act_of kind first second) (entry : entry_of a ≡ kind ∷ first ∷ second ∷ []) (allowed : is_allowed a ≡ true)

@@ -69,3 +69,7 @@ module _ (memory out : List ℕ) (channel : ℕ) (size : length memory ≡ 960) 
       let n = w.1 in
       let z = (sized_tape memory channel).high in
       record { fit = w.0; room = omega arith; tape = take-over_front out (tape_of memory channel) value (sym n) (omega arith) w.2 }
+
+  -- the same of the value by another name
+  pub wrote_end : {end : ℕ} → end ≡ value → (end ≡ 0 → ⊥) → Wrote memory channel end left
+  wrote_end same some = rw same (wrote_some (λ z. some (same ∙ z)))

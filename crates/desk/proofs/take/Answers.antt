@@ -1,66 +1,53 @@
 -- `take` meets its contract. Assumes nothing.
 use mathlib.Core.Bool.{true}
-use mathlib.Core.Path.{◌≡◌, ap, sym, subst, refl, ◌∙◌}
+use mathlib.Core.Path.{ap, sym, subst, refl, ◌∙◌}
 use Prim.Native.Nat.{◌<◌}
-use lib.ListN.{length}
 use Rattle.standing.proofs.Acts.{is_formed_allowed}
 use Rattle.standing.proofs.Ways.{give_unfit, give_invalid, give_full}
 use Rattle.replay.proofs.Laws.{act_of_pair}
 use Rattle.standing.specs.Acts.{pair}
 use Rattle.state.specs.declared.State.{State}
-use Rattle.valid.specs.Valid.{is_valid}
-use Rattle.standing.proofs.Ways.{Sized, is_sized_sizes}
 use Rattle.replay.specs.Captions.{caption_decoder}
-use Rattle.standing.specs.Calls.{Buffers, three, is_fit}
-use Rattle.desk.proofs.Laws.{given_call}
+use Rattle.standing.specs.Calls.{three}
+use Rattle.desk.proofs.Laws.{given_call, lent_sized}
 use Rattle.desk.proofs.take.Goals as goal
 
 pub read_state-state-requires : goal.read_state-state-requires
 read_state-state-requires c =
-    let lent : Buffers = let a = c.args in three a.desk.now a.log.now a.tray.now in
-    let fit : is_fit caption_decoder lent ≡ true = sym c.is_sized.ensures ∙ c.if-is_sized.true in
-    let sized : (let w = lent in Sized caption_decoder (length w.desk) (length w.log) (length w.tray)) = let w = lent in is_sized_sizes caption_decoder (length w.desk) (length w.log) (length w.tray) fit in
-    sized.desk-size
+    let a = c.args in
+    let z = lent_sized a.desk.now a.log.now a.tray.now (sym c.is_sized.ensures ∙ c.if-is_sized.true) in
+    z.desk-size
 
 pub give-requires : goal.give-requires
 give-requires c =
-    let lent : Buffers = let a = c.args in three a.desk.now a.log.now a.tray.now in
-    let fit : is_fit caption_decoder lent ≡ true = sym c.is_sized.ensures ∙ c.if-is_sized.true in
-    let sized : (let w = lent in Sized caption_decoder (length w.desk) (length w.log) (length w.tray)) = let w = lent in is_sized_sizes caption_decoder (length w.desk) (length w.log) (length w.tray) fit in
-    let valid : is_valid lent.desk ≡ true = sym c.is_valid.ensures ∙ c.if-is_valid.true in
-    let z = sized in
-    let read = c.read_state-state.ensures in
     let a = c.args in
-    (record { log_size = z.log_size; tray_size = z.tray_size; valid = valid; room = subst (λ (s : State). s.acts < 16000) read c.if-acts-lt16000.true }, read, is_formed_allowed (pair a.first a.second) refl)
+    let z = lent_sized a.desk.now a.log.now a.tray.now (sym c.is_sized.ensures ∙ c.if-is_sized.true) in
+    let read = c.read_state-state.ensures in
+    (record { log_size = z.log_size; tray_size = z.tray_size; valid = (sym c.is_valid.ensures ∙ c.if-is_valid.true); room = subst (λ (s : State). s.acts < 16000) read c.if-acts-lt16000.true }, read, is_formed_allowed (pair a.first a.second) refl)
 
 pub returns-then-acts-lt16000 : goal.returns-then-acts-lt16000
 returns-then-acts-lt16000 c =
-    let lent : Buffers = let a = c.args in three a.desk.now a.log.now a.tray.now in
-    let fit : is_fit caption_decoder lent ≡ true = sym c.is_sized.ensures ∙ c.if-is_sized.true in
-    let valid : is_valid lent.desk ≡ true = sym c.is_valid.ensures ∙ c.if-is_valid.true in
-    let w = lent in
     let a = c.args in
+    let lent = three a.desk.now a.log.now a.tray.now in
     let r = c.read_state-state in
-    given_call w.desk w.log w.tray fit valid r.result r.ensures c.if-acts-lt16000.true 1 a.first a.second
+    given_call lent.desk lent.log lent.tray (sym c.is_sized.ensures ∙ c.if-is_sized.true) (sym c.is_valid.ensures ∙ c.if-is_valid.true) r.result r.ensures c.if-acts-lt16000.true 1 a.first a.second
     (pair a.first a.second) (act_of_pair 1 a.first a.second refl) refl refl c.give.result _ _ _ c.give.ensures
 
 pub returns-then-is_valid : goal.returns-then-is_valid
 returns-then-is_valid c =
-    let lent : Buffers = let a = c.args in three a.desk.now a.log.now a.tray.now in
-    let fit : is_fit caption_decoder lent ≡ true = sym c.is_sized.ensures ∙ c.if-is_sized.true in
-    let valid : is_valid lent.desk ≡ true = sym c.is_valid.ensures ∙ c.if-is_valid.true in
-    let r = c.read_state-state in
     let a = c.args in
-    give_full caption_decoder lent fit valid r.result.acts (ap (λ (s : State). s.acts) r.ensures) (pair a.first a.second) refl c.if-acts-lt16000.false
+    let lent = three a.desk.now a.log.now a.tray.now in
+    let r = c.read_state-state in
+    give_full caption_decoder lent (sym c.is_sized.ensures ∙ c.if-is_sized.true) (sym c.is_valid.ensures ∙ c.if-is_valid.true) r.result.acts (ap (λ (s : State). s.acts) r.ensures) (pair a.first a.second) refl c.if-acts-lt16000.false
 
 pub returns-then-is_sized : goal.returns-then-is_sized
 returns-then-is_sized c =
-    let lent : Buffers = let a = c.args in three a.desk.now a.log.now a.tray.now in
-    let fit : is_fit caption_decoder lent ≡ true = sym c.is_sized.ensures ∙ c.if-is_sized.true in
     let a = c.args in
-    give_invalid caption_decoder lent fit (sym c.is_valid.ensures ∙ c.if-is_valid.false) (pair a.first a.second)
+    let lent = three a.desk.now a.log.now a.tray.now in
+    give_invalid caption_decoder lent (sym c.is_sized.ensures ∙ c.if-is_sized.true) (sym c.is_valid.ensures ∙ c.if-is_valid.false) (pair a.first a.second)
 
 pub returns : goal.returns
 returns c =
-    let lent : Buffers = let a = c.args in three a.desk.now a.log.now a.tray.now in
+    let a = c.args in
+    let lent = three a.desk.now a.log.now a.tray.now in
     give_unfit caption_decoder lent (sym c.is_sized.ensures ∙ c.if-is_sized.false) (pair c.args.first c.args.second)

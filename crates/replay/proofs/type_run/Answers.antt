@@ -1,14 +1,13 @@
 -- `type_run` meets its contract. Assumes nothing.
 use mathlib.Core.Path.{◌≡◌, refl, ap, sym, ◌∙◌}
 use mathlib.Core.Bool.{true}
-use Prim.Native.Nat.{◌+◌, ◌-◌, ◌*◌, ◌<◌}
+use Prim.Native.Nat.{◌+◌, ◌-◌}
 use native.Mathlib.Omega.{arith}
-use lib.ListN.{get_or}
 use borrow.Author.Rules.{rules}
 use Rattle.cell.specs.declared.Cursor.{Cursor}
 use Rattle.state.specs.declared.State.{State}
 use Rattle.state.specs.State.{desk}
-use Rattle.text.specs.Typed.{is_text, typed_of}
+use Rattle.text.specs.Typed.{typed_of}
 use Rattle.text.proofs.Laws.{typed_of_none}
 use Rattle.standing.specs.Calls.{replay_of}
 use Rattle.standing.proofs.Within.{replay_none}
@@ -34,60 +33,51 @@ is_text_act-requires c = (c.requires.3, c.requires.4)
 
 pub overflow_mul-at : goal.overflow_mul-at
 overflow_mul-at c =
-    let at_hand : (let a = c.args in let n = a.from + c.loop-at.n in (n < a.from + a.count) × (get_or a.log.now (n * 3) 0 ≡ 1) × (is_text (get_or a.log.now (n * 3 + 1) 0) ≡ true)) =
     let a = c.args in
-    is_text_act_at a.log.now (a.from + c.loop-at.n) (a.from + a.count) (sym c.is_text_act.ensures ∙ c.loop-at-test.true) in
+    let at_hand = is_text_act_at a.log.now (a.from + c.loop-at.n) (a.from + a.count) (sym c.is_text_act.ensures ∙ c.loop-at-test.true) in
     omega (arith, at_hand.0)
 
 pub overflow_add-at-in-loop-at : goal.overflow_add-at-in-loop-at
 overflow_add-at-in-loop-at c =
-    let at_hand : (let a = c.args in let n = a.from + c.loop-at.n in (n < a.from + a.count) × (get_or a.log.now (n * 3) 0 ≡ 1) × (is_text (get_or a.log.now (n * 3 + 1) 0) ≡ true)) =
     let a = c.args in
-    is_text_act_at a.log.now (a.from + c.loop-at.n) (a.from + a.count) (sym c.is_text_act.ensures ∙ c.loop-at-test.true) in
+    let at_hand = is_text_act_at a.log.now (a.from + c.loop-at.n) (a.from + a.count) (sym c.is_text_act.ensures ∙ c.loop-at-test.true) in
     omega (arith, at_hand.0)
 
 pub bounds-log-at : goal.bounds-log-at
 bounds-log-at c =
-    let at_hand : (let a = c.args in let n = a.from + c.loop-at.n in (n < a.from + a.count) × (get_or a.log.now (n * 3) 0 ≡ 1) × (is_text (get_or a.log.now (n * 3 + 1) 0) ≡ true)) =
     let a = c.args in
-    is_text_act_at a.log.now (a.from + c.loop-at.n) (a.from + a.count) (sym c.is_text_act.ensures ∙ c.loop-at-test.true) in
+    let at_hand = is_text_act_at a.log.now (a.from + c.loop-at.n) (a.from + a.count) (sym c.is_text_act.ensures ∙ c.loop-at-test.true) in
     omega (arith, at_hand.0)
 
 pub overflow_add-at-in-loop-at-2 : goal.overflow_add-at-in-loop-at-2
 overflow_add-at-in-loop-at-2 c =
-    let at_hand : (let a = c.args in let n = a.from + c.loop-at.n in (n < a.from + a.count) × (get_or a.log.now (n * 3) 0 ≡ 1) × (is_text (get_or a.log.now (n * 3 + 1) 0) ≡ true)) =
     let a = c.args in
-    is_text_act_at a.log.now (a.from + c.loop-at.n) (a.from + a.count) (sym c.is_text_act.ensures ∙ c.loop-at-test.true) in
+    let at_hand = is_text_act_at a.log.now (a.from + c.loop-at.n) (a.from + a.count) (sym c.is_text_act.ensures ∙ c.loop-at-test.true) in
     omega (arith, at_hand.0)
 
 pub bounds-log-at-in-loop-at : goal.bounds-log-at-in-loop-at
 bounds-log-at-in-loop-at c =
-    let at_hand : (let a = c.args in let n = a.from + c.loop-at.n in (n < a.from + a.count) × (get_or a.log.now (n * 3) 0 ≡ 1) × (is_text (get_or a.log.now (n * 3 + 1) 0) ≡ true)) =
     let a = c.args in
-    is_text_act_at a.log.now (a.from + c.loop-at.n) (a.from + a.count) (sym c.is_text_act.ensures ∙ c.loop-at-test.true) in
+    let at_hand = is_text_act_at a.log.now (a.from + c.loop-at.n) (a.from + a.count) (sym c.is_text_act.ensures ∙ c.loop-at-test.true) in
     omega (arith, at_hand.0)
 
 pub type_text-cursor-requires : goal.type_text-cursor-requires
 type_text-cursor-requires c =
-    let at_hand : (let a = c.args in let n = a.from + c.loop-at.n in (n < a.from + a.count) × (get_or a.log.now (n * 3) 0 ≡ 1) × (is_text (get_or a.log.now (n * 3 + 1) 0) ≡ true)) =
     let a = c.args in
-    is_text_act_at a.log.now (a.from + c.loop-at.n) (a.from + a.count) (sym c.is_text_act.ensures ∙ c.loop-at-test.true) in
+    let at_hand = is_text_act_at a.log.now (a.from + c.loop-at.n) (a.from + a.count) (sym c.is_text_act.ensures ∙ c.loop-at-test.true) in
     let sound = c.requires.0.captions in
     (sound.ranged, c.loop-at.invariant.1 ∙ sound.cells.size, c.loop-at.invariant.2, at_hand.2)
 
 pub loop-at-smaller : goal.loop-at-smaller
 loop-at-smaller c =
-    let at_hand : (let a = c.args in let n = a.from + c.loop-at.n in (n < a.from + a.count) × (get_or a.log.now (n * 3) 0 ≡ 1) × (is_text (get_or a.log.now (n * 3 + 1) 0) ≡ true)) =
     let a = c.args in
-    is_text_act_at a.log.now (a.from + c.loop-at.n) (a.from + a.count) (sym c.is_text_act.ensures ∙ c.loop-at-test.true) in
+    let at_hand = is_text_act_at a.log.now (a.from + c.loop-at.n) (a.from + a.count) (sym c.is_text_act.ensures ∙ c.loop-at-test.true) in
     omega (arith, at_hand.0)
 
 pub loop-at-preserved : goal.loop-at-preserved
 loop-at-preserved c =
-    let at_hand : (let a = c.args in let n = a.from + c.loop-at.n in (n < a.from + a.count) × (get_or a.log.now (n * 3) 0 ≡ 1) × (is_text (get_or a.log.now (n * 3 + 1) 0) ≡ true)) =
     let a = c.args in
-    is_text_act_at a.log.now (a.from + c.loop-at.n) (a.from + a.count) (sym c.is_text_act.ensures ∙ c.loop-at-test.true) in
-    let a = c.args in
+    let at_hand = is_text_act_at a.log.now (a.from + c.loop-at.n) (a.from + a.count) (sym c.is_text_act.ensures ∙ c.loop-at-test.true) in
     let e = c.type_text-cursor.ensures in (
       omega (arith, at_hand.0),
       search rules,

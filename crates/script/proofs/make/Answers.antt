@@ -2,8 +2,9 @@
 use mathlib.Core.Path.{◌≡◌}
 use native.Mathlib.Omega.{arith}
 use lib.Dec.{eqb}
+use mathlib.Core.Bool.{true, ◌&&◌}
+use Prim.Native.Nat.{ℕ, ◌%◌}
 use lib.ListN.{length}
-use Prim.Native.Nat.{◌%◌}
 use borrow.Author.Rules.{rules}
 use borrow.Author.Tests.{eqb-true}
 use Rattle.facts.proofs.Choice.{and_left}
@@ -12,19 +13,16 @@ use Rattle.steps.proofs.LawsOfHand.{goes_then}
 use Rattle.script.proofs.LawsOfMake.{blank_is, make_done, make_refused}
 use Rattle.script.proofs.make.Goals as goal
 
+-- a reel has room for 16,000 lines
+roomy : (room rest : ℕ) → (eqb room 80000 && eqb rest 0) ≡ true → room ≡ 80000
+roomy room rest t = eqb-true room 80000 (and_left (eqb room 80000) (eqb rest 0) t)
+
 pub reach-reached-requires : goal.reach-reached-requires
-reach-reached-requires c =
-    let roomy : length c.args.out.now ≡ 80000 =
-    let a = c.args in
-    eqb-true (length a.out.now) 80000 (and_left (eqb (length a.out.now) 80000) (eqb (length a.script.now % 40) 0) c.if-out-script.true) in
-    (blank_is, roomy)
+reach-reached-requires c = (blank_is, roomy (length c.args.out.now) (length c.args.script.now % 40) c.if-out-script.true)
 
 pub show_last-last-requires : goal.show_last-last-requires
 show_last-last-requires c =
-    let roomy : length c.args.out.now ≡ 80000 =
-    let a = c.args in
-    eqb-true (length a.out.now) 80000 (and_left (eqb (length a.out.now) 80000) (eqb (length a.script.now % 40) 0) c.if-out-script.true) in
-    let size = roomy in
+    let size = roomy (length c.args.out.now) (length c.args.script.now % 40) c.if-out-script.true in
     (c.reach-reached.ensures.0, search rules, omega arith)
 
 pub returns-then-out-script : goal.returns-then-out-script

@@ -1,5 +1,6 @@
 -- `step` meets its contract. Assumes nothing.
 use mathlib.Core.Path.{◌≡◌, refl, ap, ◌∙◌}
+use mathlib.Core.Bool.{true, ◌&&◌}
 use Prim.Native.Nat.{ℕ, ◌+◌, ◌-◌, ◌≤◌}
 use native.Mathlib.Omega.{arith}
 use lib.Dec.{eqb, leb}
@@ -15,40 +16,26 @@ use Rattle.script.specs.Script.{step_of}
 use Rattle.script.proofs.LawsOfSteps.{does_step, step_puts, step_shows, step_clears, step_waits, step_selects, step_none}
 use Rattle.script.proofs.step.Goals as goal
 
+-- a step that types has at most a row of codes
+few : (kind count : ℕ) → (eqb kind 1 && leb count 32) ≡ true → count ≤ 32
+few kind count t = leb-true count 32 (and_right (eqb kind 1) (leb count 32) t)
+
 pub overflow_cast-end : goal.overflow_cast-end
-overflow_cast-end c =
-    let few : get_or c.args.script.now (c.args.at + 4) 0 ≤ 32 =
-    let a = c.args in
-    let count = get_or a.script.now (a.at + 4) 0 in
-    leb-true count 32 (and_right (eqb (get_or a.script.now a.at 0) 1) (leb count 32) c.if-kind-count.true) in
-    omega (arith, few)
+overflow_cast-end c = omega (arith, few (get_or c.args.script.now c.args.at 0) (get_or c.args.script.now (c.args.at + 4) 0) c.if-kind-count.true)
 
 pub overflow_add-end : goal.overflow_add-end
-overflow_add-end c =
-    let few : get_or c.args.script.now (c.args.at + 4) 0 ≤ 32 =
-    let a = c.args in
-    let count = get_or a.script.now (a.at + 4) 0 in
-    leb-true count 32 (and_right (eqb (get_or a.script.now a.at 0) 1) (leb count 32) c.if-kind-count.true) in
-    omega (arith, few)
+overflow_add-end c = omega (arith, few (get_or c.args.script.now c.args.at 0) (get_or c.args.script.now (c.args.at + 4) 0) c.if-kind-count.true)
 
 pub slice_bounds-put-end : goal.slice_bounds-put-end
-slice_bounds-put-end c =
-    let few : get_or c.args.script.now (c.args.at + 4) 0 ≤ 32 =
-    let a = c.args in
-    let count = get_or a.script.now (a.at + 4) 0 in
-    leb-true count 32 (and_right (eqb (get_or a.script.now a.at 0) 1) (leb count 32) c.if-kind-count.true) in
-    omega (arith, few)
+slice_bounds-put-end c = omega (arith, few (get_or c.args.script.now c.args.at 0) (get_or c.args.script.now (c.args.at + 4) 0) c.if-kind-count.true)
 
 pub put-requires : goal.put-requires
 put-requires c =
-    let few : get_or c.args.script.now (c.args.at + 4) 0 ≤ 32 =
-    let a = c.args in
-    let count = get_or a.script.now (a.at + 4) 0 in
-    leb-true count 32 (and_right (eqb (get_or a.script.now a.at 0) 1) (leb count 32) c.if-kind-count.true) in
+    let most = few (get_or c.args.script.now c.args.at 0) (get_or c.args.script.now (c.args.at + 4) 0) c.if-kind-count.true in
     let a = c.args in
     let script = a.script.now in
-    let lent = mid_len (a.at + 8) (a.at + 8 + get_or script (a.at + 4) 0) script (omega (arith, few)) in
-    (search rules, search rules, omega (arith, few))
+    let lent = mid_len (a.at + 8) (a.at + 8 + get_or script (a.at + 4) 0) script (omega arith) in
+    (search rules, search rules, omega arith)
 
 pub returns-then-kind-count : goal.returns-then-kind-count
 returns-then-kind-count c =

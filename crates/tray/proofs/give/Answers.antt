@@ -28,23 +28,26 @@ replayed d log acts kind first second fits e =
     ap (λ (l : List ℕ). replay_of caption_decoder (read_of d) l acts 1) e
     ∙ logged_replayed log acts kind first second fits caption_decoder (read_of d)
 
+-- there is room in the log for one act more
+few : {s t : State} → s ≡ t → t.acts < 16000 → s.acts < 16000
+few e h = subst (λ (x : State). x.acts < 16000) (sym e) h
+
+fits : {s t : State} {size : ℕ} → s ≡ t → t.acts < 16000 → size ≡ 48000 → s.acts * 3 + 3 ≤ size
+fits e h size = let less = few e h in omega arith
+
 pub write_act-requires : goal.write_act-requires
-write_act-requires c =
-    let room : c.args.state.acts < 16000 = subst (λ (x : State). x.acts < 16000) (sym c.requires.1) c.requires.0.room in
-    let fits : c.args.state.acts * 3 + 3 ≤ length c.args.log.now = omega (arith, room, c.requires.0.log_size) in
-    fits
+write_act-requires c = fits c.requires.1 c.requires.0.room c.requires.0.log_size
 
 pub replay_in_place-next-requires : goal.replay_in_place-next-requires
 replay_in_place-next-requires c =
-    let room : c.args.state.acts < 16000 = subst (λ (x : State). x.acts < 16000) (sym c.requires.1) c.requires.0.room in
-    let fits : c.args.state.acts * 3 + 3 ≤ length c.args.log.now = omega (arith, room, c.requires.0.log_size) in
+    let inside = fits c.requires.1 c.requires.0.room c.requires.0.log_size in
     let a = c.args in
     let e = c.write_act.ensures in
     let size : length c.write_act.new.log ≡ length a.log.now =
     ap length e ∙ length-over a.log.now (a.state.acts * 3) (a.kind ∷ a.first ∷ a.second ∷ []) in
-    let formed = logged_formed a.log.now a.state.acts a.kind a.first a.second fits c.requires.2 in
-    let less = room in
-    (c.requires.0.valid, c.requires.1, omega arith, omega (arith, size, fits), omega arith, subst (λ (l : List ℕ). are_formed l a.state.acts 1 ≡ true) (sym e) formed)
+    let formed = logged_formed a.log.now a.state.acts a.kind a.first a.second inside c.requires.2 in
+    let less = few c.requires.1 c.requires.0.room in
+    (c.requires.0.valid, c.requires.1, omega arith, omega (arith, size, inside), omega arith, subst (λ (l : List ℕ). are_formed l a.state.acts 1 ≡ true) (sym e) formed)
 
 pub slice_bounds-keep-end : goal.slice_bounds-keep-end
 slice_bounds-keep-end c =
@@ -52,10 +55,9 @@ slice_bounds-keep-end c =
 
 pub keep-requires : goal.keep-requires
 keep-requires c =
-    let room : c.args.state.acts < 16000 = subst (λ (x : State). x.acts < 16000) (sym c.requires.1) c.requires.0.room in
-    let fits : c.args.state.acts * 3 + 3 ≤ length c.args.log.now = omega (arith, room, c.requires.0.log_size) in
+    let inside = fits c.requires.1 c.requires.0.room c.requires.0.log_size in
     let a = c.args in
-    let next = ap (λ (d : Desk). d.state.acts) (replayed a.desk.now a.log.now a.state.acts a.kind a.first a.second fits c.write_act.ensures) in
+    let next = ap (λ (d : Desk). d.state.acts) (replayed a.desk.now a.log.now a.state.acts a.kind a.first a.second inside c.write_act.ensures) in
     let acts : c.replay_in_place-next.result.acts ≡ count_of (read_of a.desk.now) + 1 =
     ap (λ (x : State). x.acts) c.replay_in_place-next.ensures.1 ∙ next ∙ step_acts (read_of a.desk.now) (act_of a.kind a.first a.second) in
     let less = c.requires.0.room in
@@ -65,11 +67,10 @@ keep-requires c =
 
 pub returns : goal.returns
 returns c =
-    let room : c.args.state.acts < 16000 = subst (λ (x : State). x.acts < 16000) (sym c.requires.1) c.requires.0.room in
-    let fits : c.args.state.acts * 3 + 3 ≤ length c.args.log.now = omega (arith, room, c.requires.0.log_size) in
+    let inside = fits c.requires.1 c.requires.0.room c.requires.0.log_size in
     let after : Desk = let a = c.args in after_of a.desk.now a.kind a.first a.second in
     let a = c.args in
-    let e = replayed a.desk.now a.log.now a.state.acts a.kind a.first a.second fits c.write_act.ensures in
+    let e = replayed a.desk.now a.log.now a.state.acts a.kind a.first a.second inside c.write_act.ensures in
     let q = c.replay_in_place-next in
     let next : q.result ≡ after.state = q.ensures.1 ∙ ap (λ (d : Desk). d.state) e in
     let decoded : q.new.desk ≡ record_of after = q.ensures.0 ∙ ap record_of e in

@@ -1,12 +1,8 @@
 -- `put_row` meets its contract. Assumes nothing.
-use mathlib.Core.Path.{◌≡◌, ◌∙◌}
-use mathlib.Core.List.{List, ◌++◌}
-use Prim.Native.Nat.{ℕ, ◌+◌, ◌*◌, ◌≤◌}
+use mathlib.Core.Path.{◌∙◌}
+use Prim.Native.Nat.{◌*◌}
 use native.Mathlib.Omega.{arith}
-use lib.ListN.{length}
 use borrow.Author.Rules.{rules}
-use Rattle.tape.specs.Item.{bytes_of}
-use Rattle.tape.specs.Tape.{rest_of, row_tape_of}
 use Rattle.items.proofs.LawsOfLaid.{laid_none, laid_then, room_front, room_rest}
 use Rattle.writer.proofs.Laws.{lead_inside, row_none, row_some}
 use Rattle.writer.proofs.put_row.Goals as goal
@@ -25,32 +21,19 @@ preamble_item-item-requires c =
 -- the row in two parts: its preamble, and its cells
 pub put_item-m-requires : goal.put_item-m-requires
 put_item-m-requires c =
-    let front : List ℕ = bytes_of c.args.channel c.preamble_item-item.result in
-    let rest : List ℕ = let a = c.args in rest_of a.channel a.memory.now (a.row * 64) c.end-end.result c.preamble_item-item.result.columns in
-    let parts : row_tape_of c.args.channel c.args.memory.now c.args.row ≡ front ++ rest =
     let a = c.args in
-    row_some a.channel a.memory.now a.row c.end-end.result c.end-end.ensures.0 c.row_pen-pen.result c.lead.result c.preamble_item-item.result c.if-end-eq0.false c.row_pen-pen.ensures c.lead.ensures.0 c.preamble_item-item.ensures in
-    let room : c.args.n + length (front ++ rest) ≤ length c.args.out.now = rw parts at c.requires.4 in
-    let a = c.args in
-    (search rules, search rules, room_front a.out.now a.n front rest room)
+    let parts = row_some a.channel a.memory.now a.row c.end-end.result c.end-end.ensures.0 c.row_pen-pen.result c.lead.result c.preamble_item-item.result c.if-end-eq0.false c.row_pen-pen.ensures c.lead.ensures.0 c.preamble_item-item.ensures in
+    (search rules, search rules, room_front a.out.now a.n _ _ (rw parts at c.requires.4))
 
 pub put_rest-requires : goal.put_rest-requires
 put_rest-requires c =
-    let front : List ℕ = bytes_of c.args.channel c.preamble_item-item.result in
-    let rest : List ℕ = let a = c.args in rest_of a.channel a.memory.now (a.row * 64) c.end-end.result c.preamble_item-item.result.columns in
-    let parts : row_tape_of c.args.channel c.args.memory.now c.args.row ≡ front ++ rest =
-    let a = c.args in
-    row_some a.channel a.memory.now a.row c.end-end.result c.end-end.ensures.0 c.row_pen-pen.result c.lead.result c.preamble_item-item.result c.if-end-eq0.false c.row_pen-pen.ensures c.lead.ensures.0 c.preamble_item-item.ensures in
-    let room : c.args.n + length (front ++ rest) ≤ length c.args.out.now = rw parts at c.requires.4 in
     let a = c.args in
     let pre = c.requires in
-    (pre.0, pre.1, omega arith, c.end-end.ensures.1, room_rest a.out.now a.n front rest c.put_item-m.ensures room)
+    let parts = row_some a.channel a.memory.now a.row c.end-end.result c.end-end.ensures.0 c.row_pen-pen.result c.lead.result c.preamble_item-item.result c.if-end-eq0.false c.row_pen-pen.ensures c.lead.ensures.0 c.preamble_item-item.ensures in
+    (pre.0, pre.1, omega arith, c.end-end.ensures.1, room_rest a.out.now a.n _ _ c.put_item-m.ensures (rw parts at pre.4))
 
 pub returns : goal.returns
 returns c =
-    let rest : List ℕ = let a = c.args in rest_of a.channel a.memory.now (a.row * 64) c.end-end.result c.preamble_item-item.result.columns in
-    let front : List ℕ = bytes_of c.args.channel c.preamble_item-item.result in
-    let parts : row_tape_of c.args.channel c.args.memory.now c.args.row ≡ front ++ rest =
     let a = c.args in
-    row_some a.channel a.memory.now a.row c.end-end.result c.end-end.ensures.0 c.row_pen-pen.result c.lead.result c.preamble_item-item.result c.if-end-eq0.false c.row_pen-pen.ensures c.lead.ensures.0 c.preamble_item-item.ensures in
-    rw parts (laid_then {t = rest} c.put_item-m.ensures c.put_rest.ensures)
+    let parts = row_some a.channel a.memory.now a.row c.end-end.result c.end-end.ensures.0 c.row_pen-pen.result c.lead.result c.preamble_item-item.result c.if-end-eq0.false c.row_pen-pen.ensures c.lead.ensures.0 c.preamble_item-item.ensures in
+    rw parts (laid_then c.put_item-m.ensures c.put_rest.ensures)

@@ -1,58 +1,61 @@
 -- `put_tape` meets its contract. Assumes nothing.
--- the text of each of the four calls
 use mathlib.Core.Path.{sym}
 use mathlib.Core.List.{List, ◌++◌}
 use Prim.Native.Nat.{ℕ, ◌+◌, ◌≤◌}
 use lib.ListN.{length}
 use borrow.Author.Rules.{rules}
 use Rattle.tape.specs.Item.{rcl_item, enm_item, eoc_item, bytes_of}
-use Rattle.tape.specs.Tape.{rows_tape_of}
+use Rattle.tape.specs.Tape.{rows_tape_of, tape_of}
 use Rattle.items.proofs.LawsOfLaid.{laid_then, room_front, room_rest}
 use Rattle.writer.proofs.Laws.{tape_parts}
 use Rattle.writer.proofs.put_tape.Goals as goal
 
--- there is room for all, for the three before EOC, and for the two before the rows
+-- the text of each of the four calls
+module _ (channel : ℕ) (memory : List ℕ) where
+  abbrev rcl_bytes : List ℕ
+  rcl_bytes = bytes_of channel rcl_item
+
+  abbrev enm_bytes : List ℕ
+  enm_bytes = bytes_of channel enm_item
+
+  abbrev rows_bytes : List ℕ
+  rows_bytes = rows_tape_of channel memory 15
+
+  abbrev eoc_bytes : List ℕ
+  eoc_bytes = bytes_of channel eoc_item
+
+  -- there is room for all, for the three before EOC, and for the two before the rows
+  module _ (out : List ℕ) (n : ℕ) (room : n + length (tape_of memory channel) ≤ length out) where
+    all : n + length (((rcl_bytes ++ enm_bytes) ++ rows_bytes) ++ eoc_bytes) ≤ length out
+    all = rw (tape_parts channel memory) room
+
+    three : n + length ((rcl_bytes ++ enm_bytes) ++ rows_bytes) ≤ length out
+    three = room_front out n ((rcl_bytes ++ enm_bytes) ++ rows_bytes) eoc_bytes all
+
+    two : n + length (rcl_bytes ++ enm_bytes) ≤ length out
+    two = room_front out n (rcl_bytes ++ enm_bytes) rows_bytes three
+
 pub put_item-opened-requires : goal.put_item-opened-requires
 put_item-opened-requires c =
-    let rcl_bytes : List ℕ = bytes_of c.args.channel rcl_item in
-    let enm_bytes : List ℕ = bytes_of c.args.channel enm_item in
-    let rows_bytes : List ℕ = rows_tape_of c.args.channel c.args.memory.now 15 in
-    let eoc_bytes : List ℕ = bytes_of c.args.channel eoc_item in
-    let all : c.args.n + length (((rcl_bytes ++ enm_bytes) ++ rows_bytes) ++ eoc_bytes) ≤ length c.args.out.now = rw (sym (tape_parts c.args.channel c.args.memory.now)) at c.requires.3 in
-    let three : c.args.n + length ((rcl_bytes ++ enm_bytes) ++ rows_bytes) ≤ length c.args.out.now = room_front c.args.out.now c.args.n ((rcl_bytes ++ enm_bytes) ++ rows_bytes) eoc_bytes all in
-    let two : c.args.n + length (rcl_bytes ++ enm_bytes) ≤ length c.args.out.now = room_front c.args.out.now c.args.n (rcl_bytes ++ enm_bytes) rows_bytes three in
-    (search rules, search rules, room_front c.args.out.now c.args.n rcl_bytes enm_bytes two)
+    let a = c.args in
+    (search rules, search rules, room_front a.out.now a.n _ _ (two a.channel a.memory.now a.out.now a.n c.requires.3))
 
 pub put_item-emptied-requires : goal.put_item-emptied-requires
 put_item-emptied-requires c =
-    let rcl_bytes : List ℕ = bytes_of c.args.channel rcl_item in
-    let enm_bytes : List ℕ = bytes_of c.args.channel enm_item in
-    let rows_bytes : List ℕ = rows_tape_of c.args.channel c.args.memory.now 15 in
-    let eoc_bytes : List ℕ = bytes_of c.args.channel eoc_item in
-    let all : c.args.n + length (((rcl_bytes ++ enm_bytes) ++ rows_bytes) ++ eoc_bytes) ≤ length c.args.out.now = rw (sym (tape_parts c.args.channel c.args.memory.now)) at c.requires.3 in
-    let three : c.args.n + length ((rcl_bytes ++ enm_bytes) ++ rows_bytes) ≤ length c.args.out.now = room_front c.args.out.now c.args.n ((rcl_bytes ++ enm_bytes) ++ rows_bytes) eoc_bytes all in
-    let two : c.args.n + length (rcl_bytes ++ enm_bytes) ≤ length c.args.out.now = room_front c.args.out.now c.args.n (rcl_bytes ++ enm_bytes) rows_bytes three in
-    (search rules, search rules, room_rest c.args.out.now c.args.n rcl_bytes enm_bytes c.put_item-opened.ensures two)
+    let a = c.args in
+    (search rules, search rules, room_rest a.out.now a.n _ _ c.put_item-opened.ensures (two a.channel a.memory.now a.out.now a.n c.requires.3))
 
 pub put_rows-loaded-requires : goal.put_rows-loaded-requires
 put_rows-loaded-requires c =
-    let rcl_bytes : List ℕ = bytes_of c.args.channel rcl_item in
-    let enm_bytes : List ℕ = bytes_of c.args.channel enm_item in
-    let rows_bytes : List ℕ = rows_tape_of c.args.channel c.args.memory.now 15 in
-    let eoc_bytes : List ℕ = bytes_of c.args.channel eoc_item in
-    let all : c.args.n + length (((rcl_bytes ++ enm_bytes) ++ rows_bytes) ++ eoc_bytes) ≤ length c.args.out.now = rw (sym (tape_parts c.args.channel c.args.memory.now)) at c.requires.3 in
-    let three : c.args.n + length ((rcl_bytes ++ enm_bytes) ++ rows_bytes) ≤ length c.args.out.now = room_front c.args.out.now c.args.n ((rcl_bytes ++ enm_bytes) ++ rows_bytes) eoc_bytes all in
-    (search rules, search rules, search rules, room_rest c.args.out.now c.args.n (rcl_bytes ++ enm_bytes) rows_bytes (laid_then c.put_item-opened.ensures c.put_item-emptied.ensures) three)
+    let a = c.args in
+    let emptied = laid_then c.put_item-opened.ensures c.put_item-emptied.ensures in
+    (search rules, search rules, search rules, room_rest a.out.now a.n _ _ emptied (three a.channel a.memory.now a.out.now a.n c.requires.3))
 
 pub put_item-requires : goal.put_item-requires
 put_item-requires c =
-    let rcl_bytes : List ℕ = bytes_of c.args.channel rcl_item in
-    let enm_bytes : List ℕ = bytes_of c.args.channel enm_item in
-    let rows_bytes : List ℕ = rows_tape_of c.args.channel c.args.memory.now 15 in
-    let eoc_bytes : List ℕ = bytes_of c.args.channel eoc_item in
-    let all : c.args.n + length (((rcl_bytes ++ enm_bytes) ++ rows_bytes) ++ eoc_bytes) ≤ length c.args.out.now = rw (sym (tape_parts c.args.channel c.args.memory.now)) at c.requires.3 in
+    let a = c.args in
     let loaded = laid_then (laid_then c.put_item-opened.ensures c.put_item-emptied.ensures) c.put_rows-loaded.ensures in
-    (c.requires.0, c.requires.1, room_rest c.args.out.now c.args.n ((rcl_bytes ++ enm_bytes) ++ rows_bytes) eoc_bytes loaded all)
+    (c.requires.0, c.requires.1, room_rest a.out.now a.n _ _ loaded (all a.channel a.memory.now a.out.now a.n c.requires.3))
 
 pub returns : goal.returns
 returns c =

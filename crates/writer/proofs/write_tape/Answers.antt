@@ -1,6 +1,7 @@
 -- `write_tape` meets its contract. Assumes nothing.
 use mathlib.Core.Path.{◌≡◌, sym, ◌∙◌}
-use mathlib.Core.Bool.{true}
+use mathlib.Core.Bool.{true, ◌&&◌}
+use Prim.Native.Nat.{ℕ}
 use native.Mathlib.Omega.{arith}
 use lib.Dec.{eqb, leb}
 use lib.ListN.{length}
@@ -8,37 +9,23 @@ use borrow.Author.Tests.{eqb-true, leb-true}
 use Rattle.facts.proofs.Choice.{and_left, and_right}
 use Rattle.tape.specs.Writable.{are_cells}
 use Rattle.tape.proofs.LawsOfSizes.{length-tape_of}
-use Rattle.writer.specs.Write.{write_tape_of}
 use Rattle.writer.proofs.Laws.{write_done}
 use Rattle.writer.proofs.write_tape.Goals as goal
 
--- what the two tests of the screen say, at the places behind them
+-- what the test of the two lengths says
+sized : (memory out : ℕ) → (eqb memory 960 && eqb out 4096) ≡ true → (memory ≡ 960) × (out ≡ 4096)
+sized memory out t =
+    (eqb-true memory 960 (and_left (eqb memory 960) (eqb out 4096) t), eqb-true out 4096 (and_right (eqb memory 960) (eqb out 4096) t))
+
 pub are_cells-requires : goal.are_cells-requires
-are_cells-requires c =
-    let sized : (length c.args.memory.now ≡ 960) × (length c.args.out.now ≡ 4096) =
-    let a = c.args in
-    let m = length a.memory.now in
-    let o = length a.out.now in
-    (eqb-true m 960 (and_left (eqb m 960) (eqb o 4096) c.if-memory-out.true), eqb-true o 4096 (and_right (eqb m 960) (eqb o 4096) c.if-memory-out.true)) in
-    sized.0
+are_cells-requires c = (sized (length c.args.memory.now) (length c.args.out.now) c.if-memory-out.true).0
 
 pub is_writable-fits-requires : goal.is_writable-fits-requires
-is_writable-fits-requires c =
-    let sized : (length c.args.memory.now ≡ 960) × (length c.args.out.now ≡ 4096) =
-    let a = c.args in
-    let m = length a.memory.now in
-    let o = length a.out.now in
-    (eqb-true m 960 (and_left (eqb m 960) (eqb o 4096) c.if-memory-out.true), eqb-true o 4096 (and_right (eqb m 960) (eqb o 4096) c.if-memory-out.true)) in
-    sized.0
+is_writable-fits-requires c = (sized (length c.args.memory.now) (length c.args.out.now) c.if-memory-out.true).0
 
 pub put_tape-requires : goal.put_tape-requires
 put_tape-requires c =
-    let sized : (length c.args.memory.now ≡ 960) × (length c.args.out.now ≡ 4096) =
-    let a = c.args in
-    let m = length a.memory.now in
-    let o = length a.out.now in
-    (eqb-true m 960 (and_left (eqb m 960) (eqb o 4096) c.if-memory-out.true), eqb-true o 4096 (and_right (eqb m 960) (eqb o 4096) c.if-memory-out.true)) in
-    let s = sized in
+    let s = sized (length c.args.memory.now) (length c.args.out.now) c.if-memory-out.true in
     let l = s.1 in
     let h = c.if-channel.true in
     let a = c.args in

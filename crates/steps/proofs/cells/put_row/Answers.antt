@@ -2,28 +2,20 @@
 use native.Mathlib.Omega.{arith}
 use lib.ListN.{length}
 use Rattle.steps.specs.Take.{typed_of}
-use Rattle.steps.proofs.LawsOfCells.{Place, place_of}
+use Rattle.steps.proofs.LawsOfCells.{place_of}
 use Rattle.steps.proofs.cells.put_row.Goals as goal
 
 pub overflow_sub-at : goal.overflow_sub-at
-overflow_sub-at c =
-    let placed : Place c.args.row c.args.column (length c.args.codes.now) = place_of c.args.row c.args.column (length c.args.codes.now) c.requires.0 in
-    let p = placed in omega arith
+overflow_sub-at c = let p = place_of c.args.row c.args.column (length c.args.codes.now) c.requires.0 in omega arith
 
 pub overflow_sub-column : goal.overflow_sub-column
-overflow_sub-column c =
-    let placed : Place c.args.row c.args.column (length c.args.codes.now) = place_of c.args.row c.args.column (length c.args.codes.now) c.requires.0 in
-    let p = placed in omega arith
+overflow_sub-column c = let p = place_of c.args.row c.args.column (length c.args.codes.now) c.requires.0 in omega arith
 
 pub put_cells-requires : goal.put_cells-requires
-put_cells-requires c =
-    let placed : Place c.args.row c.args.column (length c.args.codes.now) = place_of c.args.row c.args.column (length c.args.codes.now) c.requires.0 in
-    let p = placed in omega arith
+put_cells-requires c = let p = place_of c.args.row c.args.column (length c.args.codes.now) c.requires.0 in omega arith
 
 pub wrong_row-requires : goal.wrong_row-requires
-wrong_row-requires c =
-    let placed : Place c.args.row c.args.column (length c.args.codes.now) = place_of c.args.row c.args.column (length c.args.codes.now) c.requires.0 in
-    let p = placed in omega arith
+wrong_row-requires c = let p = place_of c.args.row c.args.column (length c.args.codes.now) c.requires.0 in omega arith
 
 pub returns : goal.returns
 unfolding typed_of

@@ -7,7 +7,7 @@ use borrow.Author.Rules.{rules}
 use Rattle.steps.specs.Take.{Went, take, show_of}
 use Rattle.steps.proofs.LawsOfHand.{fit_same, does_stopped}
 use Rattle.steps.proofs.LawsOfCues.{show_unwritable}
-use Rattle.steps.proofs.LawsOfTapes.{Wrote, wrote_none, wrote_some}
+use Rattle.steps.proofs.LawsOfTapes.{wrote_none, wrote_end}
 use Rattle.steps.proofs.cues.show.Goals as goal
 
 pub returns-then-end-eq0 : goal.returns-then-end-eq0
@@ -21,24 +21,18 @@ returns-then-end-eq0 c =
 
 pub slice_bounds-tape-end : goal.slice_bounds-tape-end
 slice_bounds-tape-end c =
-    let wrote : Wrote c.args.screen.now c.args.hand.channel c.size-end.result c.write_tape.new.out =
     let a = c.args in
-    let size = c.size-end.ensures in
-    rw size (wrote_some a.screen.now (replicate 4096 0) a.hand.channel c.requires.1 refl c.requires.0.low c.requires.0.high c.write_tape.ensures (λ z. c.if-end-eq0.false (size ∙ z))) in
+    let wrote = wrote_end a.screen.now (replicate 4096 0) a.hand.channel c.requires.1 refl c.requires.0.low c.requires.0.high c.write_tape.ensures c.size-end.ensures c.if-end-eq0.false in
     omega (arith, wrote.room)
 
 pub slice_bounds-load-end : goal.slice_bounds-load-end
 slice_bounds-load-end c =
-    let wrote : Wrote c.args.screen.now c.args.hand.channel c.size-end.result c.write_tape.new.out =
     let a = c.args in
-    let size = c.size-end.ensures in
-    rw size (wrote_some a.screen.now (replicate 4096 0) a.hand.channel c.requires.1 refl c.requires.0.low c.requires.0.high c.write_tape.ensures (λ z. c.if-end-eq0.false (size ∙ z))) in
+    let wrote = wrote_end a.screen.now (replicate 4096 0) a.hand.channel c.requires.1 refl c.requires.0.low c.requires.0.high c.write_tape.ensures c.size-end.ensures c.if-end-eq0.false in
     sym (length-take-le _ _ (omega (arith, wrote.room)))
 
 pub load-requires : goal.load-requires
 load-requires c =
-    let wrote : Wrote c.args.screen.now c.args.hand.channel c.size-end.result c.write_tape.new.out =
     let a = c.args in
-    let size = c.size-end.ensures in
-    rw size (wrote_some a.screen.now (replicate 4096 0) a.hand.channel c.requires.1 refl c.requires.0.low c.requires.0.high c.write_tape.ensures (λ z. c.if-end-eq0.false (size ∙ z))) in
+    let wrote = wrote_end a.screen.now (replicate 4096 0) a.hand.channel c.requires.1 refl c.requires.0.low c.requires.0.high c.write_tape.ensures c.size-end.ensures c.if-end-eq0.false in
     (search rules, search rules, search rules, search rules, wrote.tape, wrote.fit)
