@@ -2,4 +2,3 @@
 pub mod Choice
 pub mod Every
 pub mod Over
-mod Halves
