@@ -3,12 +3,14 @@ ghost use Rattle.std.specs.Prelude.{◌≡◌};
 ghost use Rattle.cell.specs.Pen.{is_pen};
 ghost use Rattle.cell.specs.Code.{is_code, is_cell};
 
+#[tactic(auto, unfolding(crate::specs::Pen::is_pen))]
 pub fn is_pen(byte: u8) -> bool
     ensures { result ≡ is_pen byte }
 {
     (byte % 8 <= 6) & (byte < 64)
 }
 
+#[tactic(auto, unfolding(crate::specs::Code::is_code))]
 pub fn is_code(code: u8) -> bool
     ensures { result ≡ is_code code }
 {
@@ -18,6 +20,7 @@ pub fn is_code(code: u8) -> bool
         | ((0x90 <= code) & (code <= 0x9f))
 }
 
+#[tactic(auto, using(facts::proofs::Choice::not_or), unfolding(crate::specs::Code::is_cell))]
 pub fn is_cell(code: u8, pen: u8) -> bool
     ensures { result ≡ is_cell code pen }
 {

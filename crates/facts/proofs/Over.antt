@@ -66,13 +66,6 @@ over_snoc (x ∷ d) (suc at) s n v e = rw suc-add (ap (λ (l : List ℕ). x ∷ 
 over_snoc (x ∷ d) zero [] n v e = rw (zero-add, ← e) (ap (λ (l : List ℕ). v ∷ l) (sym (over_nil d zero)))
 over_snoc (x ∷ d) zero (w ∷ s) n v e = rw (zero-add, ← e) (ap (λ (l : List ℕ). w ∷ l) (rw zero-add at (over_snoc d zero s (length s) v refl)))
 
--- a store before
-pub set-over : (d : List ℕ) (at : ℕ) (s : List ℕ) (k v : ℕ) → k < at → set (over d at s) k v ≡ over (set d k v) at s
-set-over [] at s k v h = refl
-set-over (x ∷ d) zero s k v h = absurd (not-suc-le-zero h)
-set-over (x ∷ d) (suc at) s zero v h = refl
-set-over (x ∷ d) (suc at) s (suc k) v h = ap (λ (l : List ℕ). x ∷ l) (set-over d at s k v (le_of_suc-le-suc h))
-
 -- two stores side by side
 pub over_two : (d : List ℕ) (at v w : ℕ) → set (set d at v) (at + 1) w ≡ over d at (v ∷ w ∷ [])
 over_two d at v w =

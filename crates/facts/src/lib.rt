@@ -1,16 +1,10 @@
-// Loops over lent bytes, the smaller of two numbers, and a choice of two: all that is done to bytes without knowing what they mean.
+// What is done to lent bytes, and a choice of two: all that is done to bytes without knowing what they mean.
 #![tactic(auto)]
 
-ghost use Rattle.std.specs.Prelude.{◌≡◌, ◌+◌, ◌≤◌, min, length, replicate};
+ghost use Rattle.std.specs.Prelude.{◌≡◌, ◌+◌, ◌≤◌, length, replicate};
 ghost use Rattle.facts.specs.Choice.{pick};
 ghost use Rattle.facts.specs.Over.{over, part, exchange_of};
 ghost use Rattle.facts.specs.Every.{same_of, blank_of};
-
-pub fn least(a: u8, b: u8) -> u8
-    ensures { result ≡ min a b }
-{
-    a.min(b)
-}
 
 // The first byte where the test passes, else the second.
 pub fn choose(test: bool, x: u8, y: u8) -> u8
