@@ -14,10 +14,7 @@ pub fn is_pen(byte: u8) -> bool
 pub fn is_code(code: u8) -> bool
     ensures { result ≡ is_code code }
 {
-    (code == 0)
-        | ((0x20 <= code) & (code <= 0x7f))
-        | (code == 0x80)
-        | ((0x90 <= code) & (code <= 0x9f))
+    (code == 0) | (0x20..=0x7f).contains(&code) | (code == 0x80) | (0x90..=0x9f).contains(&code)
 }
 
 #[tactic(auto, using(facts::proofs::Choice::not_or), unfolding(crate::specs::Code::is_cell))]

@@ -6,8 +6,8 @@ ghost use Rattle.facts.specs.Choice.{pick};
 ghost use Rattle.facts.specs.Over.{over, part, exchange_of};
 ghost use Rattle.facts.specs.Every.{same_of, blank_of};
 
-// The first byte where the test passes, else the second.
-pub fn choose(test: bool, x: u8, y: u8) -> u8
+// The first where the test passes, else the second.
+pub fn choose<T: Copy>(test: bool, x: T, y: T) -> T
     ensures { result ≡ pick test x y }
 {
     if test { x } else { y }

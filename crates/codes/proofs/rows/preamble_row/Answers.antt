@@ -47,11 +47,11 @@ overflow_add-result-2 c =
     let round : c.choose-round.result ≡ round_of placed = c.choose-round.ensures in
     omega (arith, down, once (ltb placed 5) 7, round, once (ltb placed 9) 5)
 
-pub returns : goal.returns
-returns c =
-    let placed : ℕ = place_of c.args.a c.args.b in
-    let down : c.choose-down.result ≡ down_of placed = c.choose-down.ensures in
-    let round : c.choose-round.result ≡ round_of placed = c.choose-round.ensures in
-    let p = c.args in
-    (λ i. (placed + down i + round i) % 16)
-    ∙ eqb-true _ _ (every_pair_at right 0x10 8 0x40 64 all_right p.a p.b (omega arith) (omega arith) (omega arith) (omega arith))
+worked : (a b : ℕ) → 0x10 ≤ a → a ≤ 0x17 → 0x40 ≤ b → b ≤ 0x7f → (let n = place_of a b in (n + down_of n + round_of n) % 16) ≡ preamble_row_of a b
+worked a b al au bl bu = eqb-true _ _ (every_pair_at right 0x10 8 0x40 64 all_right a b al (omega arith) bl (omega arith))
+
+pub returns-in-0 : goal.returns-in-0
+returns-in-0 c = ?
+
+pub returns-in_row : goal.returns-in_row
+returns-in_row c = ?
