@@ -152,9 +152,7 @@ pub fn is_unassigned(code: Code) -> bool
 pub fn is_assigned(a: u8, b: u8) -> bool
     ensures { result ≡ is_assigned a b }
 {
-    (0x10..=0x1f).contains(&a)
-        && (0x20..=0x7f).contains(&b)
-        && !is_unassigned(classify(a, b))
+    (0x10..=0x1f).contains(&a) && (0x20..=0x7f).contains(&b) && !is_unassigned(classify(a, b))
 }
 
 // Whether the two bytes may stand for the expected pair: none, or one that is assigned.
