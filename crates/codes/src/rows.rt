@@ -14,11 +14,9 @@ pub fn preamble_row(a: u8, b: u8) -> Option<Row>
     ensures { result ≡ pick (eqb (preamble_row_of a b) 0) None (Some (row_number (preamble_row_of a b))) }
 {
     let first = (a + 7) % 8;
-    let place = ((first << 1) + ((b - 0x40) >> 5) + 1) % 16;
+    let place = ((first << 1) + ((b - 0x20) >> 5)) % 16;
     let down = facts::choose(place < 5, 0, 7);
     let round = facts::choose(place < 9, 0, 5);
-    match (place + down + round) % 16 {
-        0 => None,
-        row => Some(Row(row)),
-    }
+    let row = (place + down + round) % 16;
+    if row == 0 { None } else { Some(Row(row)) }
 }

@@ -15,7 +15,7 @@ use Rattle.codes.proofs.Pairs.{every_pair_at}
 use Rattle.codes.proofs.rows.preamble_row.Goals as goal
 
 abbrev place_of : ℕ → ℕ → ℕ
-place_of a b = ((a + 7) % 8 * 2 % 256 + (b - 0x40) / 0x20 + 1) % 16
+place_of a b = ((a + 7) % 8 * 2 % 256 + (b - 0x20) / 0x20) % 16
 
 abbrev down_of : ℕ → ℕ
 down_of n = pick (ltb n 5) 0 7
@@ -37,16 +37,15 @@ worked a b al au bl bu d r =
     (λ i. (place_of a b + d i + r i) % 16)
     ∙ eqb-true _ _ (every_pair_at right 0x10 8 0x40 64 all_right a b al (omega arith) bl (omega arith))
 
-pub returns-in-0 : goal.returns-in-0
-returns-in-0 c =
+pub returns-then-row-eq0 : goal.returns-then-row-eq0
+returns-then-row-eq0 c =
     let p = c.args in
     let e = worked p.a p.b (omega arith) (omega arith) (omega arith) (omega arith) c.choose-down.ensures c.choose-round.ensures in
-    let none : preamble_row_of p.a p.b ≡ 0 = sym e ∙ c.in-0.is in
+    let none : preamble_row_of p.a p.b ≡ 0 = sym e ∙ c.if-row-eq0.true in
     rw none
 
-pub returns-in_default : goal.returns-in_default
-returns-in_default c =
+pub returns-else-row-eq0 : goal.returns-else-row-eq0
+returns-else-row-eq0 c =
     let p = c.args in
     let e = worked p.a p.b (omega arith) (omega arith) (omega arith) (omega arith) c.choose-down.ensures c.choose-round.ensures in
-    let other : preamble_row_of p.a p.b ≡ 0 → ⊥ = λ none. let zero = e ∙ none in absurd (omega arith) in
-    simp (ne_eqb _ _ other) (ap (λ (n : ℕ). Some (row_number n)) e)
+    simp (ne_eqb _ _ (λ none. c.if-row-eq0.false (e ∙ none))) (ap (λ (n : ℕ). Some (row_number n)) e)
