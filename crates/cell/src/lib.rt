@@ -16,7 +16,8 @@ pub struct Row(pub u8);
 #[derive(Clone, Copy, Debug, PartialEq, Eq)]
 pub struct Column(pub u8);
 
-// A pen taken apart; in a cell and in a cursor it is one byte.
+// A pen taken apart; in a cell and in a cursor it is one byte. A colour stays as it is: a number below 8, and no enum of the seven, since `unpack_of` takes
+// every byte, and `is_pen` is what tells a pen of colour 7 from those allowed.
 #[derive(Clone, Copy, Debug, PartialEq, Eq)]
 pub struct Pen {
     pub colour: u8,

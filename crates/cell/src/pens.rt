@@ -4,6 +4,8 @@ ghost use Rattle.cell.specs.Pen.{pack_of, unpack_of, after_mid_row, of_preamble,
 
 use crate::Pen;
 
+// This pair stays as it is: two functions and no `From`, since `pack` asks for a colour below 8, which no `From` can ask, and each undoes the other by the
+// laws `unpack_of-pack_of` and `pack_of-unpack_of`.
 impl Pen {
     pub fn pack(self) -> u8
         requires { self.colour < 8 }

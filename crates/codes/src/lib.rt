@@ -12,6 +12,7 @@ use cell::pens::preamble_pen;
 use cell::{Column, Row};
 use rows::preamble_row;
 
+// A code stays as it is: `Unassigned` is one among the others, and no `None`, since `code_of`, `Proper` and `is_unassigned` take it as a code.
 #[derive(Clone, Copy, Debug, PartialEq, Eq)]
 pub enum Code {
     Unassigned,
@@ -38,7 +39,7 @@ pub enum Code {
     Eoc,
 }
 
-// The channel that a first byte is for.
+// The channel that a first byte is for. It stays as it is: the number 1 or 2, since `channel_of` has it so, and so has `loikrasun_select` for C.
 #[tactic(auto, unfolding(crate::specs::Codes::channel_of))]
 pub fn channel(a: u8) -> u8
     ensures { (result ≡ channel_of a) × (1 ≤ result) × (result ≤ 2) }
@@ -46,7 +47,7 @@ pub fn channel(a: u8) -> u8
     if a <= 0x17 { 1 } else { 2 }
 }
 
-// What the pair says.
+// What the pair says. A pair stays as it is: two bytes, since a type of control pairs would be narrower than what `classify` takes.
 #[tactic(auto, unfolding(crate::specs::Codes::code_of))]
 pub fn classify(a: u8, b: u8) -> Code
     requires { (0x10 ≤ a) × (a ≤ 0x1f) × (0x20 ≤ b) × (b ≤ 0x7f) }

@@ -111,12 +111,6 @@ length-part d from n h = length-take-le n (drop from d) (simp length-drop (omega
 pub over-three : (d : List ℕ) (at u v w : ℕ) → set (set (set d at u) (at + 1) v) (at + 2) w ≡ over d at (u ∷ v ∷ w ∷ [])
 over-three d at u v w = ap (λ (l : List ℕ). set l (at + 2) w) (over_two d at u v) ∙ over_snoc d at (u ∷ v ∷ []) 2 w refl
 
--- a list written in two parts, the tail first: the record in place
-pub over_both : (d h t : List ℕ) → length d ≡ length h + length t → over (over d (length h) t) 0 h ≡ h ++ t
-over_both d [] t e = over_nil (over d 0 t) 0 ∙ over_all d t (omega arith)
-over_both [] (v ∷ h) t e = absurd (suc-ne-zero (length h + length t) (sym (e ∙ suc-add (length h) (length t))))
-over_both (x ∷ d) (v ∷ h) t e = ap (λ (l : List ℕ). v ∷ l) (over_both d h t (omega arith))
-
 -- the front up to the end of what was written
 pub front_over : (d : List ℕ) (at : ℕ) (s : List ℕ) → at + length s ≤ length d → take (at + length s) (over d at s) ≡ take at d ++ s
 front_over [] zero [] h = refl

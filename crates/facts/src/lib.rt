@@ -13,6 +13,9 @@ pub fn choose<T: Copy>(test: bool, x: T, y: T) -> T
     if test { x } else { y }
 }
 
+// What is lent stays as it is: all the bytes, with a place and a number beside them, since `over`, `part` and `blank_of`, by which the crates above say
+// what they write and test, name places in the whole.
+
 // The whole of a lent part becomes 0.
 pub fn blank(out: &mut [u8])
     ensures { out.new ≡ replicate (length out.old) 0 }

@@ -9,8 +9,8 @@ ghost use Rattle.page.specs.Page.{Holds, write_cell_of, empty_cell_of, empty_fro
 
 use cell::{Column, Row};
 
-// A memory stays as it is: a place in the cells and no slice of its own, since `write_cell_of` and the definitions beside it, which the laws of the two
-// memories speak of, take the place, and `exchange` needs both memories in one lent slice.
+// What is lent stays as it is: the cells with the place of a memory, and a row beside a column, since `write_cell_of` and the definitions beside it, which
+// the laws of the two memories speak of, take each of them, and `exchange` needs both memories in one lent slice.
 pub const DISPLAYED: usize = 0;
 
 pub const NON_DISPLAYED: usize = 960;
