@@ -37,25 +37,25 @@ fn name(code: Code) -> &'static str {
     }
 }
 
-fn print_word(out: &impl Print, word: &str) {
+pub fn print(out: &impl Print, word: &str) {
     let _ = print!(out; "{word}");
 }
 
 fn print_counted(out: &impl Print, word: &str, n: u8) {
-    print_word(out, word);
+    print(out, word);
     let _ = print!(out; "{n}");
 }
 
 // `plain` is a pen with neither italics nor underline.
 fn print_looks(out: &impl Print, pen: Pen) {
     if pen.italics {
-        print_word(out, " italics");
+        print(out, " italics");
     }
     if pen.underline {
-        print_word(out, " underline");
+        print(out, " underline");
     }
     if !pen.italics && !pen.underline {
-        print_word(out, " plain");
+        print(out, " plain");
     }
 }
 
@@ -64,9 +64,9 @@ fn print_mid_row(out: &impl Print, b: u8)
     requires { (0x20 ≤ b) × (b ≤ 0x2f) }
 {
     let pen = Pen::unpack(mid_row_pen(0, b));
-    print_word(out, " mid-row");
+    print(out, " mid-row");
     if !pen.italics {
-        print_word(out, colour(pen.colour));
+        print(out, colour(pen.colour));
     }
     print_looks(out, pen);
 }
@@ -74,12 +74,12 @@ fn print_mid_row(out: &impl Print, b: u8)
 fn print_preamble(out: &impl Print, row: Row, column: Column, pen: Pen) {
     print_counted(out, " preamble row ", row.0);
     print_counted(out, " column ", column.0);
-    print_word(out, colour(pen.colour));
+    print(out, colour(pen.colour));
     print_looks(out, pen);
 }
 
 fn print_special(out: &impl Print, code: u8) {
-    print_word(out, " special ");
+    print(out, " special ");
     let _ = print!(out; "{code:02X}");
 }
 
@@ -92,7 +92,7 @@ fn print_code(out: &impl Print, code: Code)
         Code::Tab(n) => print_counted(out, " tab ", n),
         Code::Preamble(row, column, pen) => print_preamble(out, row, column, Pen::unpack(pen)),
         Code::Ru(n) => print_counted(out, " roll-up ", n),
-        _ => print_word(out, name(code)),
+        _ => print(out, name(code)),
     }
 }
 
@@ -104,11 +104,5 @@ pub fn print_line(out: &impl Print, a: u8, b: u8)
     let _ = print!(out; "{b:02X}");
     print_counted(out, " channel ", codes::channel(a));
     print_code(out, codes::classify(a, b));
-    print_word(out, "\n");
-}
-
-pub fn print_sum(out: &impl Print, assigned: u64) {
-    print_word(out, "assigned pairs: ");
-    let _ = print!(out; "{assigned}");
-    print_word(out, "\n");
+    print(out, "\n");
 }
