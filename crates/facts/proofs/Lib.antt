@@ -2,4 +2,5 @@
 pub mod Choice
 pub mod Every
 pub mod Over
+pub mod Tail
 mod Halves

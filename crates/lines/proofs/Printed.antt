@@ -7,6 +7,8 @@ use Prim.Native.Nat.{ℕ, zero, suc, ◌+◌, ◌-◌, ◌≤◌, ◌<◌}
 use native.Mathlib.Omega.{arith}
 use lib.Dec.{eqb}
 use borrow.Author.Tests.{eqb-true, eqb-false, eq-eqb}
+use Rattle.std.specs.Prelude.{Option, Some, None, MatchOption}
+use Rattle.std.specs.Option.{unwrap_or}
 use Rattle.facts.proofs.Choice.{pick_cases, below_cases, and_left, and_right, and_both}
 use Rattle.lines.specs.Span.{code_at, lead_more_of, end_more_of, lead_of, end_of}
 
@@ -101,3 +103,11 @@ end_of_here s at n k high empty filled =
 -- with no non-empty cell there is nothing before the end
 pub end_of_none : (s : List ℕ) (at n : ℕ) → ((k : ℕ) → k < n → code_at s at k ≡ 0) → end_of s at n ≡ 0
 end_of_none s at n h = sym (end_of_only s at n 0 (record { high = omega arith; empty = λ k low. h k; filled = λ k e. absurd (omega arith) }))
+
+-- what a search from the front finds, or n where it finds none, is the first end
+pub lead_of_found : (s : List ℕ) (at n : ℕ) (r : Option ℕ) → MatchOption r ((k : ℕ) → 0 ≤ k → k < n → code_at s at k ≡ 0)
+    (λ i. (0 ≤ i) × (i < n) × (code_at s at i ≡ 0 → ⊥) × ((k : ℕ) → 0 ≤ k → k < i → code_at s at k ≡ 0)) → (unwrap_or r n ≡ lead_of s at n) × (unwrap_or r n ≤ n)
+lead_of_found s at n None f = (lead_of_only s at n n (record { high = omega arith; empty = λ k. f k (omega arith); filled = λ h. absurd (omega arith) }), omega arith)
+lead_of_found s at n (Some i) f =
+    let below = f.1 in
+    (lead_of_only s at n i (record { high = omega arith; empty = λ k. f.3 k (omega arith); filled = λ h. f.2 }), omega arith)
