@@ -2,7 +2,6 @@
 ghost use Rattle.std.specs.Prelude.{◌<◌, ◌≤◌, length};
 
 use crate::note::wide;
-use walk::END;
 
 // The longest register that is printed whole.
 const SCREENFUL: u64 = 2000;
@@ -60,7 +59,7 @@ fn tell(reel: &[u8], cells: &mut [u8; 1920], held: &mut [u8; 960], out: &mut [u8
         last: 0,
     };
     let mut w = walk::start(cells, held);
-    while w.stage < END {
+    while w.stage.is_live() {
         let p = pieces::next_piece(w, reel, cells, held, out);
         w = p.walk;
         t = add_piece(t, out, p.n);

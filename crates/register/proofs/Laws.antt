@@ -4,12 +4,13 @@ use mathlib.Core.Bool.{Bool, true, false, not, ◌&&◌}
 use mathlib.Core.List.{List}
 use Prim.Native.Nat.{ℕ, ◌+◌, ◌*◌, ◌<◌, ◌≤◌}
 use native.Mathlib.Omega.{arith}
-use lib.Dec.{ltb}
 use lib.ListN.{length}
-use borrow.Author.Tests.{ltb-true, ltb-false, not-true}
+use borrow.Author.Tests.{not-true}
 use Rattle.facts.proofs.Choice.{and_left, and_right}
 use Rattle.runs.specs.Register.{register_of}
-use Rattle.walk.specs.Walk.{Place, at_end, start_of, Fit, steps_of}
+use Rattle.walk.specs.declared.Stage.{Stage}
+use Rattle.walk.specs.Stage.{is_live}
+use Rattle.walk.specs.Walk.{Place, start_of, Fit, steps_of}
 use Rattle.pieces.specs.Pieces.{buffer, handed, next_piece_of}
 use Rattle.walk.proofs.Laws.{rest_of, rest_start, rest_none}
 use Rattle.walk.proofs.LawsOfSteps.{start_fit}
@@ -17,11 +18,11 @@ use Rattle.pieces.proofs.Laws.{handed_rest, handed_fit, handed_on}
 
 -- The loop goes on while all is not given and no write has failed.
 
-pub goes_on : (stage : ℕ) (failed : Bool) → (ltb stage at_end && not failed) ≡ true → (stage < at_end) × (failed ≡ false)
-goes_on stage failed e = (ltb-true stage at_end (and_left (ltb stage at_end) (not failed) e), not-true failed (and_right (ltb stage at_end) (not failed) e))
+pub goes_on : (stage : Stage) (failed : Bool) → (is_live stage && not failed) ≡ true → (is_live stage ≡ true) × (failed ≡ false)
+goes_on stage failed e = (and_left (is_live stage) (not failed) e, not-true failed (and_right (is_live stage) (not failed) e))
 
-pub is_done : (stage : ℕ) (failed : Bool) → (ltb stage at_end && not failed) ≡ false → failed ≡ false → at_end ≤ stage
-is_done stage failed e whole = ltb-false stage at_end (left (ltb stage at_end) (rw whole at e))
+pub is_done : (stage : Stage) (failed : Bool) → (is_live stage && not failed) ≡ false → failed ≡ false → is_live stage ≡ false
+is_done stage failed e whole = left (is_live stage) (rw whole at e)
   where
     left : (t : Bool) → (t && true) ≡ false → t ≡ false
     left true f = f
@@ -42,7 +43,7 @@ printing_start reel {p} e =
       all = λ t. omega (arith, ap (λ (q : Place). length (rest_of q reel)) e, ap length (rest_start reel));
     }
 
-module _ (reel out : List ℕ) {p q : Place} {n m : ℕ} {left : List ℕ} {failed : Bool} (g : Printing reel p n failed) (live : p.walk.stage < at_end) (h : handed q m left ≡ next_piece_of p reel out) where
+module _ (reel out : List ℕ) {p q : Place} {n m : ℕ} {left : List ℕ} {failed : Bool} (g : Printing reel p n failed) (live : is_live p.walk.stage ≡ true) (h : handed q m left ≡ next_piece_of p reel out) where
   pub printing_less : steps_of q.walk < steps_of p.walk
   printing_less = handed_on p reel out g.fit h live
 
@@ -56,5 +57,5 @@ module _ (reel out : List ℕ) {p q : Place} {n m : ℕ} {left : List ℕ} {fail
         all = λ t. omega (arith, s.1 t, g.all whole, handed_rest p reel out g.fit h);
       }
 
-pub printing_end : (reel : List ℕ) {p : Place} {n : ℕ} {failed : Bool} → Printing reel p n failed → at_end ≤ p.walk.stage → failed ≡ false → n ≡ length (register_of reel)
+pub printing_end : (reel : List ℕ) {p : Place} {n : ℕ} {failed : Bool} → Printing reel p n failed → is_live p.walk.stage ≡ false → failed ≡ false → n ≡ length (register_of reel)
 printing_end reel {p} g done whole = omega (arith, g.all whole, ap length (rest_none p reel done))

@@ -5,8 +5,6 @@
 ghost use Rattle.std.specs.Prelude.{false, ◌≡◌, ◌+◌, ◌≤◌, length};
 ghost use Rattle.runs.specs.Register.{register_of};
 
-use walk::END;
-
 // How many bytes of the register have gone out, and whether a write failed.
 #[derive(Clone, Copy)]
 struct Sent {
@@ -46,7 +44,7 @@ fn print<O: Print, E: Print>(to: &O, err: &E, reel: &[u8]) -> Sent
         n: 0,
         failed: false,
     };
-    while (w.stage < END) & !sent.failed {
+    while w.stage.is_live() & !sent.failed {
         let p = pieces::next_piece(w, reel, &mut cells, &mut held, &mut out);
         let n = p.n;
         w = p.walk;

@@ -20,7 +20,7 @@ add_piece-t-requires c =
 pub loop-w-smaller : goal.loop-w-smaller
 loop-w-smaller c =
     let l = c.loop-w in
-    handed_on (place l.w l.cells l.held) _ _ l.invariant.0 c.next_piece-p.ensures.0 c.loop-w-test.true
+    handed_on (place l.w l.cells l.held) _ _ l.invariant.0 c.next_piece-p.ensures.0 (rw c.is_live.ensures at c.loop-w-test.true)
 
 pub loop-w-preserved : goal.loop-w-preserved
 loop-w-preserved c =
