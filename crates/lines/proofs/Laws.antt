@@ -55,10 +55,6 @@ unfolding codes_of
 length_codes_of s at from zero = refl
 length_codes_of s at from (suc n) = simp length-append (omega (arith, length_codes_of s at from n))
 
-pub length_frame_of : (frame : ℕ) → length (frame_of frame) ≡ 6
-unfolding frame_of
-length_frame_of frame = refl
-
 pub length_head_of : (from to row : ℕ) → length (head_of from to row) ≡ 15
 unfolding head_of frame_of row_of
 length_head_of from to row = refl

@@ -1,7 +1,7 @@
-// The bytes of the register's lines, printed into a lent buffer behind what stands there already.
+// The bytes of the register's lines, printed at the front of a lent buffer.
 #![tactic(auto)]
 
-ghost use Rattle.std.specs.Prelude.{◌≡◌, [], ◌∷◌, ◌+◌, ◌-◌, ◌≤◌, length};
+ghost use Rattle.std.specs.Prelude.{◌≡◌, ◌+◌, ◌-◌, ◌≤◌, length};
 ghost use Rattle.facts.specs.Over.{over};
 ghost use Rattle.lines.specs.Span.{lead_of, end_of};
 ghost use Rattle.lines.specs.Line.{header, digit_of, frame_of, row_of, head_of, codes_of, run, row_line_of, lines_of, refused_of, Put};
@@ -13,7 +13,7 @@ use cell::Row;
 fn digit(value: usize) -> u8
     ensures { result ≡ digit_of value }
 {
-    (value % 10) as u8 + 0x30
+    (value % 10) as u8 + b'0'
 }
 
 // A frame in five digits, and a space.
@@ -33,21 +33,15 @@ fn frame_text(frame: usize) -> [u8; 6]
 
 // A row in two digits, and a space.
 #[tactic(auto, unfolding(crate::specs::Line::row_of))]
-fn row_text(row: usize) -> [u8; 3]
-    ensures { result ≡ row_of row }
+fn row_text(row: Row) -> [u8; 3]
+    ensures { result ≡ row_of row.0 }
 {
-    [digit(row / 10), digit(row), b' ']
+    let number = row.0 as usize;
+    [digit(number / 10), digit(number), b' ']
 }
 
-// What stands before the codes of a line.
-fn put_head(out: &mut [u8], from: usize, to: usize, row: usize)
-    requires { 15 ≤ length out.old }
-    ensures { out.new ≡ over out.old 0 (head_of from to row) }
-{
-    facts::copy(out, &frame_text(from));
-    facts::copy(&mut out[6..], &frame_text(to));
-    facts::copy(&mut out[12..], &row_text(row));
-}
+// A row goes in as a screen and the place where it starts, which stays as it is: `writer` and `writable` read rows of a memory at places
+// that `cell` gives, and the laws of tapes speak of `lead_of` and `end_of` at such places.
 
 // How many cells of the row that starts at `at` stand before its first non-empty one.
 pub fn lead(screen: &[u8], at: usize) -> usize
@@ -90,18 +84,31 @@ fn put_codes(out: &mut [u8], screen: &[u8], at: usize, from: usize, end: usize) 
     n
 }
 
-// The line of one row of a run, where the row has a non-empty cell.
-fn put_row_line(out: &mut [u8], from: usize, to: usize, screen: &[u8; 960], row: u8) -> usize
-    requires { (80 ≤ length out.old) × (1 ≤ row) × (row ≤ 15) }
-    ensures { Put out.old (row_line_of (run from to screen.now) row) 80 out.new result }
+// What stands before the codes of a line.
+fn put_head(out: &mut [u8], from: usize, to: usize, row: Row)
+    requires { 15 ≤ length out.old }
+    ensures { out.new ≡ over out.old 0 (head_of from to row.0) }
 {
-    let at = cell::row_address(page::DISPLAYED, Row(row));
+    facts::copy(out, &frame_text(from));
+    facts::copy(&mut out[6..], &frame_text(to));
+    facts::copy(&mut out[12..], &row_text(row));
+}
+
+// A run's frames and its screen go in one by one, which stays as it is: of a struct that holds the lent screen each clause says whether it means
+// what it was or what it is, and code takes the screen out before it lends it on.
+
+// The line of one row of a run, where the row has a non-empty cell. Gives how many bytes it is.
+fn put_row_line(out: &mut [u8], from: usize, to: usize, screen: &[u8; 960], row: Row) -> usize
+    requires { (80 ≤ length out.old) × (1 ≤ row.0) × (row.0 ≤ 15) }
+    ensures { Put out.old (row_line_of (run from to screen.now) row.0) 80 out.new result }
+{
+    let at = cell::row_address(page::DISPLAYED, row);
     let end = end(screen, at);
     if end == 0 {
         return 0;
     }
     let lead = lead(screen, at);
-    put_head(out, from, to, row as usize);
+    put_head(out, from, to, row);
     let n = 15 + put_codes(&mut out[15..], screen, at, lead, end);
     out[n] = b'\n';
     n + 1
@@ -114,7 +121,7 @@ pub fn put_lines(out: &mut [u8], from: usize, to: usize, screen: &[u8; 960]) -> 
 {
     let mut n = 0;
     for row in 1..=15 {
-        n += put_row_line(&mut out[n..], from, to, screen, row);
+        n += put_row_line(&mut out[n..], from, to, screen, Row(row));
     }
     n
 }

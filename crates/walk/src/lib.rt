@@ -1,5 +1,6 @@
 // One step of the register's walk over a reel: a frame's pair is shown, or the end is printed, at the front of a lent buffer.
-// The walk goes by value; the cells and the screen of the open stretch are lent, and their types fix their lengths.
+// The walk goes by value; the cells and the screen of the open stretch are lent beside it, and their types fix their lengths. That stays as it is:
+// `start` is a public call that fills what it is lent, and a struct that holds what is lent owes in each contract which loan it holds.
 #![tactic(auto)]
 
 ghost use Rattle.std.specs.Prelude.{◌≡◌, ◌≤◌, ◌<◌, length};

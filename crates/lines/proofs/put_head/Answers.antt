@@ -13,4 +13,4 @@ returns c =
     let one = rw c.frame_text.ensures at c.copy.ensures in
     let two = rw c.frame_text-2.ensures at c.copy-2.ensures in
     let three = rw c.row_text.ensures at c.copy-3.ensures in
-    tail_then d (frame_of a.from ++ frame_of a.to) (row_of a.row) 12 (omega arith) (omega arith) (tail_then d (frame_of a.from) (frame_of a.to) 6 (omega arith) (omega arith) one two) three
+    tail_then d (frame_of a.from ++ frame_of a.to) (row_of a.row.0) 12 (omega arith) (omega arith) (tail_then d (frame_of a.from) (frame_of a.to) 6 (omega arith) (omega arith) one two) three
