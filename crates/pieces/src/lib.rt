@@ -53,6 +53,7 @@ fn step(w: Walk, reel: &[u8], cells: &mut [u8; 1920], held: &mut [u8; 960], out:
 }
 
 // Whether there is room for one step more behind `n` bytes, and all is not given yet.
+#[tactic(auto, unfolding(crate::specs::Pieces::is_on))]
 fn is_on(stage: Stage, n: usize) -> bool
     requires { n ≤ 65536 }
     ensures { result ≡ is_on stage n }
