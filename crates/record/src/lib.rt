@@ -94,10 +94,8 @@ fn write_counts(bytes: &mut [u8])
     requires { length bytes.old ≡ 1984 }
     ensures { bytes.new ≡ over bytes.old 19 (counts_of (drop 64 bytes.old)) }
 {
-    let mut r: usize = 0;
-    while r < 30 {
+    for r in 0..30 {
         bytes[19 + r] = page::count_cells(bytes, 64 + r * 64);
-        r += 1;
     }
 }
 
