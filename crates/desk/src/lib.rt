@@ -10,6 +10,7 @@ ghost use Rattle.desk.specs.Numbers.{number_of, given, ready_of};
 ghost use Rattle.desk.specs.Looks.{row_of, view_of, view_number_of};
 
 use cell::Row;
+use replay::Entry;
 use state::State;
 
 // Why a call is refused.
@@ -66,26 +67,19 @@ pub fn open(desk: &mut [u8], log: &mut [u8], tray: &mut [u8]) -> Result<u16, Ref
 }
 
 // An act by its three bytes. The act count behind it.
-fn give(
-    desk: &mut [u8],
-    log: &mut [u8],
-    tray: &mut [u8],
-    kind: u8,
-    first: u8,
-    second: u8,
-) -> Result<u16, Refusal>
-    requires { entry_of (act_of kind first second) ≡ kind ∷ first ∷ second ∷ [] }
+fn give(desk: &mut [u8], log: &mut [u8], tray: &mut [u8], act: Entry) -> Result<u16, Refusal>
+    requires { entry_of (act_of act.kind act.first act.second) ≡ act.kind ∷ act.first ∷ act.second ∷ [] }
     ensures { outcome (given result) desk.new log.new tray.new
-        ≡ give_of caption_decoder (three desk.old log.old tray.old) (act_of kind first second) }
+        ≡ give_of caption_decoder (three desk.old log.old tray.old) (act_of act.kind act.first act.second) }
 {
     let state = ready(slots::is_sized(desk.len(), log.len(), tray.len()), desk)?;
-    if !replay::is_formed(kind, first, second) {
+    if !act.is_formed() {
         return Err(Refusal::NoSuch);
     }
     if state.acts >= 16000 {
         return Err(Refusal::Full);
     }
-    Ok(tray::give(desk, log, tray, state, kind, first, second))
+    Ok(tray::give(desk, log, tray, state, act))
 }
 
 // A pair of raw bytes, as an act.
@@ -99,7 +93,12 @@ pub fn take(
     ensures { outcome (given result) desk.new log.new tray.new
         ≡ take_of caption_decoder desk.old log.old tray.old first second }
 {
-    give(desk, log, tray, 1, first, second)
+    let act = Entry {
+        kind: 1,
+        first,
+        second,
+    };
+    give(desk, log, tray, act)
 }
 
 // A channel, as an act.
@@ -107,7 +106,12 @@ pub fn select(desk: &mut [u8], log: &mut [u8], tray: &mut [u8], channel: u8) -> 
     ensures { outcome (given result) desk.new log.new tray.new
         ≡ select_of caption_decoder desk.old log.old tray.old channel }
 {
-    give(desk, log, tray, 2, channel, 0)
+    let act = Entry {
+        kind: 2,
+        first: channel,
+        second: 0,
+    };
+    give(desk, log, tray, act)
 }
 
 // A step back by k of the acts that stand. Start and acts are looked at before any byte is touched. The act count that is left.

@@ -22,15 +22,15 @@ pub returns-then-not-is_formed : goal.returns-then-not-is_formed
 returns-then-not-is_formed c =
     let a = c.args in
     let f = found c.is_sized.ensures c.in_ok-state.ensures in
-    give_no_channel caption_decoder (three a.desk.now a.log.now a.tray.now) f.fits (act_of a.kind a.first a.second) f.valid
-    (allowed_of_formed a.kind a.first a.second c.requires c.is_formed.ensures ∙ c.if-not-is_formed.true)
+    give_no_channel caption_decoder (three a.desk.now a.log.now a.tray.now) f.fits (act_of a.act.kind a.act.first a.act.second) f.valid
+    (allowed_of_formed a.act.kind a.act.first a.act.second c.requires c.is_formed.ensures ∙ c.if-not-is_formed.true)
 
 pub returns-then-state-ge16000 : goal.returns-then-state-ge16000
 returns-then-state-ge16000 c =
     let a = c.args in
     let f = found c.is_sized.ensures c.in_ok-state.ensures in
     give_full caption_decoder (three a.desk.now a.log.now a.tray.now) f.fits f.valid c.in_ok-state.state.acts (ap (λ (x : State). x.acts) f.read)
-    (act_of a.kind a.first a.second) (allowed_of_formed a.kind a.first a.second c.requires c.is_formed.ensures ∙ c.if-not-is_formed.false) c.if-state-ge16000.true
+    (act_of a.act.kind a.act.first a.act.second) (allowed_of_formed a.act.kind a.act.first a.act.second c.requires c.is_formed.ensures ∙ c.if-not-is_formed.false) c.if-state-ge16000.true
 
 pub give-requires : goal.give-requires
 give-requires c =
@@ -46,6 +46,6 @@ pub returns : goal.returns
 returns c =
     let a = c.args in
     let f = found c.is_sized.ensures c.in_ok-state.ensures in
-    given_call a.desk.now a.log.now a.tray.now a.kind a.first a.second c.requires f.fits f.valid
+    given_call a.desk.now a.log.now a.tray.now a.act.kind a.act.first a.act.second c.requires f.fits f.valid
     (subst (λ (s : State). s.acts < 16000) f.read c.if-state-ge16000.false)
-    (allowed_of_formed a.kind a.first a.second c.requires c.is_formed.ensures ∙ c.if-not-is_formed.false) c.give.result _ _ _ c.give.ensures
+    (allowed_of_formed a.act.kind a.act.first a.act.second c.requires c.is_formed.ensures ∙ c.if-not-is_formed.false) c.give.result _ _ _ c.give.ensures

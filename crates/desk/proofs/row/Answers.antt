@@ -3,10 +3,10 @@ use mathlib.Core.Path.{ap, refl, sym, ◌∙◌}
 use Prim.Native.Nat.{ℕ}
 use Rattle.std.proofs.lemmas.Result.{err_from_is_err_and}
 use Rattle.cell.specs.Place.{row_number}
+use Rattle.valid.proofs.LawsOfRanges.{contains_within, within_low, within_high}
 use Rattle.valid.proofs.Laws.{is_valid-length, is_valid_count}
 use Rattle.standing.specs.Calls.{gives}
 use Rattle.desk.specs.Looks.{look_of, row_of}
-use Rattle.desk.proofs.LawsOfRows.{contains_is, is_row_number_bounds}
 use Rattle.desk.proofs.LawsOfFound.{found, refused_first}
 use Rattle.desk.proofs.row.Goals as goal
 
@@ -21,14 +21,15 @@ unfolding row_of look_of
 returns-then-not-contains c =
     let f = found refl c.in_ok-ready.ensures in
     let n = c.new.ensures in
-    rw (f.fits, f.valid, sym (contains_is c.new.result 1 15 c.args.number n.start n.end n.exhausted) ∙ sym c.contains.ensures.value ∙ c.if-not-contains.true)
+    let told = contains_within c.new.result 1 15 c.args.number n.start n.end n.exhausted c.contains.ensures.value in
+    rw (f.fits, f.valid, sym told ∙ c.if-not-contains.true)
 
 pub read_count-requires : goal.read_count-requires
 read_count-requires c =
     let f = found refl c.in_ok-ready.ensures in
     let n = c.new.ensures in
-    let k = is_row_number_bounds c.args.number (sym (contains_is c.new.result 1 15 c.args.number n.start n.end n.exhausted) ∙ sym c.contains.ensures.value ∙ c.if-not-contains.false) in
-    (is_valid-length _ f.valid, k.1)
+    let told = contains_within c.new.result 1 15 c.args.number n.start n.end n.exhausted c.contains.ensures.value in
+    (is_valid-length _ f.valid, within_high 1 15 c.args.number (sym told ∙ c.if-not-contains.false))
 
 pub returns : goal.returns
 unfolding row_of look_of
@@ -36,6 +37,7 @@ returns c =
     let a = c.args in
     let f = found refl c.in_ok-ready.ensures in
     let n = c.new.ensures in
-    let is = sym (contains_is c.new.result 1 15 a.number n.start n.end n.exhausted) ∙ sym c.contains.ensures.value ∙ c.if-not-contains.false in
-    let k = is_row_number_bounds a.number is in
-    rw (f.fits, f.valid, is) (ap (gives 0) (c.read_count.ensures ∙ is_valid_count a.desk.now (row_number a.number) f.valid k.0 k.1))
+    let told = contains_within c.new.result 1 15 a.number n.start n.end n.exhausted c.contains.ensures.value in
+    let is = sym told ∙ c.if-not-contains.false in
+    rw (f.fits, f.valid, is)
+    (ap (gives 0) (c.read_count.ensures ∙ is_valid_count a.desk.now (row_number a.number) f.valid (within_low 1 15 a.number is) (within_high 1 15 a.number is)))
