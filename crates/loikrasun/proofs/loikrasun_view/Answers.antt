@@ -6,7 +6,7 @@ use lib.ListN.{length}
 use borrow.Author.Tests.{eq-eqb, ne_eqb}
 use Rattle.facts.specs.Over.{over}
 use Rattle.loikrasun.specs.Packed.{packed_of, filled, viewed_of}
-use Rattle.loikrasun.proofs.Laws.{length_view_of}
+use Rattle.loikrasun.proofs.Laws.{desk_packed, length_view_of}
 use Rattle.loikrasun.proofs.loikrasun_view.Goals as goal
 
 pub copy-requires : goal.copy-requires
@@ -16,7 +16,7 @@ pub returns-then-out-eq960 : goal.returns-then-out-eq960
 unfolding viewed_of
 returns-then-out-eq960 c =
     let out = c.args.out.now in
-    let number = c.pack_answer.ensures ∙ ap packed_of c.view_number.ensures in
+    let number = desk_packed c.view_number.result c.pack_answer.ensures ∙ ap packed_of c.view_number.ensures in
     let shown = c.copy.ensures ∙ ap (over out 0) c.view.ensures in
     rw (eq-eqb _ _ c.if-out-eq960.true) (λ i. filled (number i) (shown i))
 
