@@ -10,7 +10,8 @@ use Rattle.state.specs.declared.State.{State}
 use Rattle.record.specs.Layout.{state_of}
 use Rattle.valid.specs.Valid.{is_valid}
 use Rattle.valid.proofs.Laws.{is_valid_sound}
-use Rattle.standing.specs.Calls.{three, is_fit}
+use Rattle.standing.specs.Acts.{Act}
+use Rattle.standing.specs.Calls.{Buffers, three, refused, is_fit, give_of, back_of}
 use Rattle.standing.proofs.Ways.{Sized, is_sized_sizes}
 use Rattle.replay.specs.Captions.{caption_decoder}
 use Rattle.desk.specs.declared.Refusal.{Refusal}
@@ -45,6 +46,15 @@ refused_first f next d {sized} {test} {r} same e = go sized (is_valid d) e ∙ a
     go true true e = cc
     go true false e = cc
     go false b e = cc
+
+module _ (w : Buffers) {sized : Bool} {r : Refusal} (same : sized ≡ is_fit caption_decoder w) (e : Err r ≡ ready_of sized w.desk) where
+  pub give_refused : (a : Act) → refused (number_of (Err r)) w ≡ give_of caption_decoder w a
+  unfolding give_of
+  give_refused a = refused_first (λ (n : ℕ). refused n w) _ _ same e
+
+  pub back_refused : (k : ℕ) → refused (number_of (Err r)) w ≡ back_of caption_decoder w.desk w.log w.tray k
+  unfolding back_of
+  back_refused k = refused_first (λ (n : ℕ). refused n w) _ _ same e
 
 -- the lengths of three buffers that fit
 pub lent_sized : (d l t : List ℕ) → is_fit caption_decoder (three d l t) ≡ true → Sized caption_decoder (length d) (length l) (length t)

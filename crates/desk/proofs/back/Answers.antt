@@ -6,18 +6,17 @@ use lib.ListN.{replicate}
 use Rattle.std.proofs.lemmas.Result.{err_from_is_err_and}
 use Rattle.facts.specs.Over.{over}
 use Rattle.state.specs.declared.State.{State}
-use Rattle.standing.specs.Calls.{three, refused, back_of}
+use Rattle.standing.specs.Calls.{three}
 use Rattle.standing.proofs.Ways.{back_beyond, back_broken, back_done}
 use Rattle.replay.specs.Captions.{caption_decoder}
-use Rattle.desk.proofs.LawsOfFound.{found, refused_first, lent_sized}
+use Rattle.desk.proofs.LawsOfFound.{found, back_refused, lent_sized}
 use Rattle.desk.proofs.back.Goals as goal
 
 pub returns-in_err-state : goal.returns-in_err-state
-unfolding back_of
 returns-in_err-state c =
     let a = c.args in
     let p = err_from_is_err_and c.from_residual.result c.from_residual.ensures.1 in
-    rw (p.1, p.2) (refused_first (λ (n : ℕ). refused n (three a.desk.now a.log.now a.tray.now)) _ _ c.is_sized.ensures c.in_err-state.ensures)
+    rw (p.1, p.2) (back_refused (three a.desk.now a.log.now a.tray.now) c.is_sized.ensures c.in_err-state.ensures a.k)
 
 pub returns-then-k-acts : goal.returns-then-k-acts
 returns-then-k-acts c =

@@ -1,22 +1,21 @@
 -- `give` meets its contract. Assumes nothing.
 use mathlib.Core.Path.{ap, sym, subst, ◌∙◌}
-use Prim.Native.Nat.{ℕ, ◌<◌}
+use Prim.Native.Nat.{◌<◌}
 use Rattle.std.proofs.lemmas.Result.{err_from_is_err_and}
 use Rattle.state.specs.declared.State.{State}
 use Rattle.standing.specs.Acts.{act_of}
-use Rattle.standing.specs.Calls.{three, refused, give_of}
+use Rattle.standing.specs.Calls.{three}
 use Rattle.standing.proofs.Ways.{give_no_channel, give_full}
 use Rattle.replay.specs.Captions.{caption_decoder}
 use Rattle.desk.proofs.Laws.{given_call, allowed_of_formed}
-use Rattle.desk.proofs.LawsOfFound.{found, refused_first, lent_sized}
+use Rattle.desk.proofs.LawsOfFound.{found, give_refused, lent_sized}
 use Rattle.desk.proofs.give.Goals as goal
 
 pub returns-in_err-state : goal.returns-in_err-state
-unfolding give_of
 returns-in_err-state c =
     let a = c.args in
     let p = err_from_is_err_and c.from_residual.result c.from_residual.ensures.1 in
-    rw (p.1, p.2) (refused_first (λ (n : ℕ). refused n (three a.desk.now a.log.now a.tray.now)) _ _ c.is_sized.ensures c.in_err-state.ensures)
+    rw (p.1, p.2) (give_refused (three a.desk.now a.log.now a.tray.now) c.is_sized.ensures c.in_err-state.ensures (act_of a.act.kind a.act.first a.act.second))
 
 pub returns-then-not-is_formed : goal.returns-then-not-is_formed
 returns-then-not-is_formed c =
