@@ -14,6 +14,7 @@ ghost use Rattle.replay.specs.Text.{is_text_act};
 use state::State;
 
 // Three bytes of the log. It is lent, so any three can stand there: 1 and the two raw bytes of a pair, 2, channel, 0, or what is no act.
+// The kind stays as it is: a number, of which `act_of` and `is_formed` of `standing` say for each byte what is done, and whether it is refused.
 #[derive(Clone, Copy, Debug, PartialEq, Eq)]
 pub struct Entry {
     pub kind: u8,
@@ -74,6 +75,7 @@ fn step(state: State, cells: &mut [u8], act: Entry) -> State
 }
 
 // Whether `count` acts of the log behind the first `from` are well formed. The way out keeps the compiler from gathering every third byte.
+// The log with a place in it stays as it is: the definitions (`are_formed`, `replay_of`) count an act from the log's first one, and not in a part.
 pub fn are_formed(log: &[u8], from: usize, count: usize) -> bool
     requires { ((from + count) * 3 ≤ length log.now) × (from + count ≤ 16000) }
     ensures { result ≡ are_formed log.now from count }
@@ -107,7 +109,7 @@ fn type_run(start: State, cells: &mut [u8], log: &[u8], from: usize, count: usiz
 }
 
 // `count` acts of the log behind the first `from`, one after the other. Where no pair is expected, text goes on in a run.
-// The `while` stays as it is: a run takes `n` on past all of its acts, and a `for` over a range goes on by one.
+// The `while` stays as it is: a run takes `n` on past all of its acts, where a `for` over a range goes on by one.
 pub fn replay(start: State, cells: &mut [u8], log: &[u8], from: usize, count: usize) -> State
     requires { SoundDesk (desk start cells.old) × (start.acts + count ≤ 16000) × ((from + count) * 3 ≤ length log.now) × (from + count ≤ 16000) × (are_formed log.now from count ≡ true) }
     ensures { desk result cells.new ≡ replay_of caption_decoder (desk start cells.old) log.now from count }
