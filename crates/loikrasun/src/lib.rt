@@ -86,11 +86,11 @@ pub fn loikrasun_row(desk: &[u8], row: u8) -> u32
 pub fn loikrasun_view(desk: &[u8], out: &mut [u8]) -> u32
     ensures { filled result out.new ≡ viewed_of desk.now out.old }
 {
-    if out.len() == 960 {
-        facts::copy(out, desk::view(desk));
-        return pack_answer(desk::view_number(desk));
+    if out.len() != 960 {
+        return pack_answer(Err(desk::Refusal::WrongLength));
     }
-    pack(1, 0)
+    facts::copy(out, desk::view(desk));
+    pack_answer(desk::view_number(desk))
 }
 
 pub fn loikrasun_line_write(out: &mut [u8], first: u8, second: u8) -> u32
