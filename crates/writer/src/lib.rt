@@ -5,21 +5,33 @@ ghost use Rattle.std.specs.Prelude.{◌≡◌, ◌+◌, ◌*◌, ◌<◌, ◌≤
 ghost use Rattle.wire.specs.Written.{outcome};
 ghost use Rattle.tape.specs.Tape.{code_before, item_at, rest_of, row_tape_of, rows_tape_of, tape_of};
 ghost use Rattle.items.specs.Laid.{Laid};
-ghost use Rattle.writer.specs.Write.{number_of_tape, value_of_tape, write_tape_of};
+ghost use Rattle.writer.specs.Write.{number_of_refusal, number_of_tape, value_of_tape, write_tape_of};
 
 use tape::Item;
 
-// What the call gives back.
-#[derive(Clone, Copy)]
-pub enum Answer {
-    // How many bytes were written.
-    Done(u16),
+// Why a tape is refused.
+#[derive(Clone, Copy, Debug, PartialEq, Eq)]
+pub enum Refusal {
     WrongLength,
     // A channel that there is not.
     NoSuch,
     // A cell that no record may hold.
     Invalid,
     NotWritable,
+}
+
+// The paper's number of a refusal.
+impl From<Refusal> for u16 {
+    ghost from_gives = { λ refusal number. number ≡ number_of_refusal refusal };
+
+    fn from(refusal: Refusal) -> u16 {
+        match refusal {
+            Refusal::WrongLength => 1,
+            Refusal::NoSuch => 2,
+            Refusal::Invalid => 6,
+            Refusal::NotWritable => 7,
+        }
+    }
 }
 
 // The code of cell `k` of a row of `end` cells; behind them 80h stands, so that the next row is no part of this one.
@@ -110,23 +122,22 @@ fn put_tape(out: &mut [u8], n: usize, channel: u8, memory: &[u8]) -> usize
     items::put_item(out, loaded, channel, items::EOC)
 }
 
-// The tape of a screen of 960 bytes on a channel, into a buffer of 4,096; its bytes past the pairs stay, and on a refusal all of them.
+// The tape of a screen of 960 bytes on a channel, into a buffer of 4,096, and how many bytes it has; the buffer's bytes past the pairs stay, and on a refusal all of them.
 #[tactic(auto, unfolding(crate::specs::Write::write_tape_of))]
-pub fn write_tape(memory: &[u8], channel: u8, out: &mut [u8]) -> Answer
+pub fn write_tape(memory: &[u8], channel: u8, out: &mut [u8]) -> Result<u16, Refusal>
     ensures { outcome (number_of_tape result) (value_of_tape result) out.new ≡ write_tape_of memory.now channel out.old }
 {
-    if (memory.len() == 960) & (out.len() == 4096) {
-        if writable::are_cells(memory) {
-            let fits = writable::is_writable(memory);
-            if (1 <= channel) & (channel <= 2) {
-                if fits {
-                    return Answer::Done(put_tape(out, 0, channel, memory) as u16);
-                }
-                return Answer::NotWritable;
-            }
-            return Answer::NoSuch;
-        }
-        return Answer::Invalid;
+    if memory.len() != 960 || out.len() != 4096 {
+        return Err(Refusal::WrongLength);
     }
-    Answer::WrongLength
+    if !writable::are_cells(memory) {
+        return Err(Refusal::Invalid);
+    }
+    if channel < 1 || 2 < channel {
+        return Err(Refusal::NoSuch);
+    }
+    if !writable::is_writable(memory) {
+        return Err(Refusal::NotWritable);
+    }
+    Ok(put_tape(out, 0, channel, memory) as u16)
 }
