@@ -1,8 +1,9 @@
 -- What a step to another channel comes to. Assumes nothing.
 use mathlib.Core.Path.{◌≡◌}
-use mathlib.Core.Bool.{true, false, ◌&&◌}
-use Prim.Native.Nat.{ℕ}
-use lib.Dec.{leb}
+use mathlib.Core.Bool.{true, false}
+use Prim.Native.Nat.{ℕ, ◌<◌, ◌≤◌}
+use native.Mathlib.Omega.{arith}
+use borrow.Author.Tests.{le-leb, lt-leb}
 use Rattle.steps.specs.Take.{Take, take, went, switch_of}
 
 module _ (t : Take) (number : ℕ) where
@@ -10,10 +11,15 @@ module _ (t : Take) (number : ℕ) where
   unfolding switch_of
   channel_drawn d = rw d
 
-  pub channel_kept : t.drawn ≡ false → (leb 1 number && leb number 2) ≡ true → switch_of t number ≡ went 0 0 (take number false t.screen t.cues)
-  unfolding switch_of
-  channel_kept d own = rw (d, own)
+  module _ (d : t.drawn ≡ false) where
+    pub channel_kept : 1 ≤ number → number ≤ 2 → switch_of t number ≡ went 0 0 (take number false t.screen t.cues)
+    unfolding switch_of
+    channel_kept low high = rw (d, le-leb 1 number low, le-leb number 2 high)
 
-  pub channel_none : t.drawn ≡ false → (leb 1 number && leb number 2) ≡ false → switch_of t number ≡ went 2 0 t
-  unfolding switch_of
-  channel_none d own = rw (d, own)
+    pub channel_low : number < 1 → switch_of t number ≡ went 2 0 t
+    unfolding switch_of
+    channel_low low = rw (d, lt-leb 1 number low)
+
+    pub channel_high : 2 < number → switch_of t number ≡ went 2 0 t
+    unfolding switch_of
+    channel_high high = rw (d, le-leb 1 number (omega arith), lt-leb number 2 high)
