@@ -76,7 +76,7 @@ module _ (t : Take) (row column pen : ℕ) (codes : List ℕ) where
   put_nowhere p = rw p
 
 -- what is wrong has a number
-some_number : (wrong : Wrong) → number_of wrong ≡ 0 → ⊥
+pub some_number : (wrong : Wrong) → number_of wrong ≡ 0 → ⊥
 some_number WrongLength e = omega arith
 some_number NoSuch e = omega arith
 some_number TooManyFrames e = omega arith

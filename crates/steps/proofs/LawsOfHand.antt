@@ -27,7 +27,7 @@ fit_same h drawn f = record { low = f.low; high = f.high; room = f.room }
 pub frames_more : (cues new : List Cue) → pairs_of (programme_of (cues ++ new)) ≡ pairs_of (programme_of cues) + pairs_of (programme_of new)
 frames_more cues new = ap pairs_of (programme_of_then cues new) ∙ pairs_of_then (programme_of cues) (programme_of new) (programme_of_pairs cues)
 
-goes_at : {w v : Went} {h : Hand} {wrong : Option Wrong} {screen first out : List ℕ} → w ≡ v → Goes v h wrong screen first out → Goes w h wrong screen first out
+pub goes_at : {w v : Went} {h : Hand} {wrong : Option Wrong} {screen first out : List ℕ} → w ≡ v → Goes v h wrong screen first out → Goes w h wrong screen first out
 goes_at {h = h} {wrong = wrong} {screen = screen} {first = first} {out = out} e g = subst (λ (w : Went). Goes w h wrong screen first out) (sym e) g
 
 module _ (f : Take → Went) (h : Hand) (screen out : List ℕ) where
