@@ -11,13 +11,7 @@ pub fn are_cells(memory: &[u8]) -> bool
     requires { length memory.now ≡ 960 }
     ensures { result ≡ are_cells memory.now }
 {
-    let mut ok = true;
-    let mut row: usize = 0;
-    while row < 15 {
-        ok = ok & valid::is_row(memory, row * 64);
-        row += 1;
-    }
-    ok
+    (0..15).all(|row| valid::is_row(memory, row * 64))
 }
 
 // The pen of the last non-empty cell of the row that starts at `at`; plain where there is none.
@@ -47,20 +41,13 @@ fn is_cell_of(pen: u8, code: u8, own: u8) -> bool
     (code == 0) | ((own == pen) & (code != 0x80))
 }
 
-// Whether the row that starts at `at` can be written. One flag with no way out, as in the tests of a record.
+// Whether the row that starts at `at` can be written.
 pub fn is_row_writable(memory: &[u8], at: usize) -> bool
     requires { at + 64 ≤ length memory.now }
     ensures { result ≡ is_row_writable memory.now at }
 {
     let pen = row_pen(memory, at);
-    let mut ok = true;
-    let mut k: usize = 0;
-    while k < 32 {
-        let i = at + k * 2;
-        ok = ok & is_cell_of(pen, memory[i], memory[i + 1]);
-        k += 1;
-    }
-    is_steady(pen) & ok
+    is_steady(pen) && (0..32).all(|k| is_cell_of(pen, memory[at + k * 2], memory[at + k * 2 + 1]))
 }
 
 // Whether a screen can be written.
@@ -68,11 +55,5 @@ pub fn is_writable(memory: &[u8]) -> bool
     requires { length memory.now ≡ 960 }
     ensures { result ≡ is_writable memory.now }
 {
-    let mut ok = true;
-    let mut row: usize = 0;
-    while row < 15 {
-        ok = ok & is_row_writable(memory, row * 64);
-        row += 1;
-    }
-    ok
+    (0..15).all(|row| is_row_writable(memory, row * 64))
 }
