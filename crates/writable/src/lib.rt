@@ -15,6 +15,7 @@ pub fn are_cells(memory: &[u8]) -> bool
 }
 
 // The pen of the last non-empty cell of the row that starts at `at`; plain where there is none.
+#[tactic(auto, unfolding(tape::specs::Writable::row_pen_of))]
 pub fn row_pen(memory: &[u8], at: usize) -> u8
     requires { at + 64 ≤ length memory.now }
     ensures { result ≡ row_pen_of memory.now at }
@@ -27,6 +28,7 @@ pub fn row_pen(memory: &[u8], at: usize) -> u8
 }
 
 // No flash, and italics only with white.
+#[tactic(auto, unfolding(tape::specs::Writable::is_steady))]
 fn is_steady(pen: u8) -> bool
     ensures { result ≡ is_steady pen }
 {
@@ -35,6 +37,7 @@ fn is_steady(pen: u8) -> bool
 }
 
 // An empty cell, or a character with the row's pen.
+#[tactic(auto, unfolding(tape::specs::Writable::is_cell_of))]
 fn is_cell_of(pen: u8, code: u8, own: u8) -> bool
     ensures { result ≡ is_cell_of pen code own }
 {
