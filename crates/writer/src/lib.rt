@@ -57,6 +57,7 @@ fn item_at(memory: &[u8], at: usize, end: usize, k: usize) -> Item
 }
 
 // The items of a row from cell `from` on, behind the first `n` bytes of a buffer.
+// The loop stays as it is: (d) an item leads on one to three columns by what it is, so that no range, slice or chunk is what it goes over.
 fn put_rest(
     out: &mut [u8],
     n: usize,
@@ -103,10 +104,8 @@ fn put_rows(out: &mut [u8], n: usize, channel: u8, memory: &[u8]) -> usize
     ensures { Laid out.old n (rows_tape_of channel memory.now 15) out.new result }
 {
     let mut m = n;
-    let mut row: usize = 0;
-    while row < 15 {
+    for row in 0..15 {
         m = put_row(out, m, channel, memory, row);
-        row += 1;
     }
     m
 }
