@@ -3,11 +3,12 @@
 
 ghost use Rattle.std.specs.Prelude.{◌≡◌, ◌+◌, ◌*◌, ◌<◌, ◌≤◌, length};
 ghost use Rattle.wire.specs.Written.{outcome};
+ghost use Rattle.tape.specs.Channel.{number_of_channel};
 ghost use Rattle.tape.specs.Tape.{code_before, item_at, rest_of, row_tape_of, rows_tape_of, tape_of};
 ghost use Rattle.items.specs.Laid.{Laid};
 ghost use Rattle.writer.specs.Write.{number_of_refusal, number_of_tape, value_of_tape, write_tape_of};
 
-use tape::Item;
+use tape::{Channel, Item};
 
 // Why a tape is refused.
 #[derive(Clone, Copy, Debug, PartialEq, Eq)]
@@ -61,15 +62,15 @@ fn item_at(memory: &[u8], at: usize, end: usize, k: usize) -> Item
 fn put_rest(
     out: &mut [u8],
     n: usize,
-    channel: u8,
+    channel: Channel,
     memory: &[u8],
     at: usize,
     end: usize,
     from: usize,
 ) -> usize
-    requires { (1 ≤ channel) × (channel ≤ 2) × (at + 64 ≤ length memory.now) × (end ≤ 32)
-        × (n + length (rest_of channel memory.now at end from) ≤ length out.old) }
-    ensures { Laid out.old n (rest_of channel memory.now at end from) out.new result }
+    requires { (at + 64 ≤ length memory.now) × (end ≤ 32)
+        × (n + length (rest_of (number_of_channel channel) memory.now at end from) ≤ length out.old) }
+    ensures { Laid out.old n (rest_of (number_of_channel channel) memory.now at end from) out.new result }
 {
     let mut m = n;
     let mut k = from;
@@ -82,10 +83,10 @@ fn put_rest(
 }
 
 // A row, counted from 0: nothing where it is empty, else its preamble and its cells up to the last non-empty one.
-fn put_row(out: &mut [u8], n: usize, channel: u8, memory: &[u8], row: usize) -> usize
-    requires { (1 ≤ channel) × (channel ≤ 2) × (length memory.now ≡ 960) × (row < 15)
-        × (n + length (row_tape_of channel memory.now row) ≤ length out.old) }
-    ensures { Laid out.old n (row_tape_of channel memory.now row) out.new result }
+fn put_row(out: &mut [u8], n: usize, channel: Channel, memory: &[u8], row: usize) -> usize
+    requires { (length memory.now ≡ 960) × (row < 15)
+        × (n + length (row_tape_of (number_of_channel channel) memory.now row) ≤ length out.old) }
+    ensures { Laid out.old n (row_tape_of (number_of_channel channel) memory.now row) out.new result }
 {
     let at = row * 64;
     let end = lines::end(memory, at);
@@ -99,9 +100,9 @@ fn put_row(out: &mut [u8], n: usize, channel: u8, memory: &[u8], row: usize) -> 
 }
 
 // All rows, from the top.
-fn put_rows(out: &mut [u8], n: usize, channel: u8, memory: &[u8]) -> usize
-    requires { (1 ≤ channel) × (channel ≤ 2) × (length memory.now ≡ 960) × (n + length (rows_tape_of channel memory.now 15) ≤ length out.old) }
-    ensures { Laid out.old n (rows_tape_of channel memory.now 15) out.new result }
+fn put_rows(out: &mut [u8], n: usize, channel: Channel, memory: &[u8]) -> usize
+    requires { (length memory.now ≡ 960) × (n + length (rows_tape_of (number_of_channel channel) memory.now 15) ≤ length out.old) }
+    ensures { Laid out.old n (rows_tape_of (number_of_channel channel) memory.now 15) out.new result }
 {
     let mut m = n;
     for row in 0..15 {
@@ -111,9 +112,9 @@ fn put_rows(out: &mut [u8], n: usize, channel: u8, memory: &[u8]) -> usize
 }
 
 // The whole tape, behind the first `n` bytes of a buffer.
-fn put_tape(out: &mut [u8], n: usize, channel: u8, memory: &[u8]) -> usize
-    requires { (1 ≤ channel) × (channel ≤ 2) × (length memory.now ≡ 960) × (n + length (tape_of memory.now channel) ≤ length out.old) }
-    ensures { Laid out.old n (tape_of memory.now channel) out.new result }
+fn put_tape(out: &mut [u8], n: usize, channel: Channel, memory: &[u8]) -> usize
+    requires { (length memory.now ≡ 960) × (n + length (tape_of memory.now (number_of_channel channel)) ≤ length out.old) }
+    ensures { Laid out.old n (tape_of memory.now (number_of_channel channel)) out.new result }
 {
     let opened = items::put_item(out, n, channel, items::RCL);
     let emptied = items::put_item(out, opened, channel, items::ENM);
@@ -132,9 +133,9 @@ pub fn write_tape(memory: &[u8], channel: u8, out: &mut [u8]) -> Result<u16, Ref
     if !writable::are_cells(memory) {
         return Err(Refusal::Invalid);
     }
-    if channel < 1 || 2 < channel {
+    let Ok(channel) = Channel::try_from(channel) else {
         return Err(Refusal::NoSuch);
-    }
+    };
     if !writable::is_writable(memory) {
         return Err(Refusal::NotWritable);
     }
