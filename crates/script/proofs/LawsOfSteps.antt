@@ -13,6 +13,7 @@ use Rattle.std.proofs.lemmas.Bool.{true≢false, false≢true}
 use Rattle.facts.specs.Choice.{pick}
 use Rattle.facts.proofs.Choice.{below_cases}
 use Rattle.facts.proofs.Over.{over_nil}
+use Rattle.tape.specs.declared.Channel.TheVariants.{One}
 use Rattle.tape.specs.Programme.{Cue}
 use Rattle.steps.specs.declared.Hand.{Hand}
 use Rattle.steps.specs.declared.Wrong.{Wrong}
@@ -38,11 +39,11 @@ pub record Reaches (script : List ℕ) (k : ℕ) (h : Hand) (screen first out : 
   pub kept : (reached_of script k).kept ≡ k
   pub goes : Goes (reached_of script k).last h None screen first out
 
-pub reach_none : (script out : List ℕ) {screen : List ℕ} → screen ≡ blank → Reaches script 0 (hand 1 false 0) screen out out
+pub reach_none : (script out : List ℕ) {screen : List ℕ} → screen ≡ blank → Reaches script 0 (hand One false 0) screen out out
 unfolding reached_of
 reach_none script out e =
     record {
-      fit = record { low = omega arith; high = omega arith; room = omega arith };
+      fit = record { room = omega arith };
       kept = refl;
       goes = record { same = ap (λ (s : List ℕ). went 0 0 (take 1 false s [])) e; stands = record { frames = refl; lines = sym (over_nil out 0) } };
     }

@@ -10,6 +10,7 @@ ghost use Rattle.script.specs.Script.{step_of, reached_of, show_last_of};
 ghost use Rattle.script.specs.Make.{outcome, make_of};
 
 use steps::{Hand, Wrong, cells, cues};
+use tape::Channel;
 
 // What a script came to: how many steps were kept, how many bytes their reel has, and why it stops there, if it does.
 #[derive(Clone, Copy, Debug, PartialEq, Eq)]
@@ -70,7 +71,7 @@ fn reach(script: &[u8], screen: &mut [u8], out: &mut [u8]) -> Reached
 {
     let count = script.len() / 40;
     let mut hand = Hand {
-        channel: 1,
+        channel: Channel::One,
         drawn: false,
         frames: 0,
     };

@@ -13,6 +13,7 @@ use Rattle.std.specs.Prelude.{Ok, Err}
 use Rattle.facts.specs.Over.{over}
 use Rattle.facts.proofs.Choice.{and_left, and_right}
 use Rattle.facts.proofs.Over.{over_two, over_all}
+use Rattle.tape.specs.Channel.{number_of_channel}
 use Rattle.items.proofs.LawsOfLaid.{Rest, rest_start, rest_turn, rest_stop}
 use Rattle.steps.specs.declared.Hand.{Hand}
 use Rattle.steps.specs.declared.Wrong.{Wrong}
@@ -105,7 +106,7 @@ module _ (h : Hand) (screen : List ℕ) (row column pen : ℕ) (codes : List ℕ
     does_put e l b out =
         let shown = b ∙ over_all screen typed (size ∙ sym l) ∙ is_typed in
         does_same puts h screen out refl
-        (λ cues n. put_kept (take_of h screen cues) row column pen codes place (sym (is_wrong e)) ∙ (λ i. went 0 0 (take h.channel true (sym shown i) cues)))
+        (λ cues n. put_kept (take_of h screen cues) row column pen codes place (sym (is_wrong e)) ∙ (λ i. went 0 0 (take (number_of_channel h.channel) true (sym shown i) cues)))
 
     pub stops_put : {wrong : Wrong} → number_of wrong ≡ wrong_row_of typed (row_at row) → frame_of wrong ≡ 0 → (out : List ℕ) → Does (λ t. put_of t row column pen codes) h screen out (Err wrong) screen out
     unfolding puts

@@ -21,7 +21,7 @@ use Rattle.steps.specs.Hand.{hand, Fit, hand_of, take_of, Goes, Does}
 
 -- the same channel, and no frame more
 pub fit_same : (h : Hand) (drawn : Bool) → Fit h → Fit (hand h.channel drawn h.frames)
-fit_same h drawn f = record { low = f.low; high = f.high; room = f.room }
+fit_same h drawn f = record { room = f.room }
 
 -- the frames of cues behind others
 pub frames_more : (cues new : List Cue) → pairs_of (programme_of (cues ++ new)) ≡ pairs_of (programme_of cues) + pairs_of (programme_of new)

@@ -12,6 +12,7 @@ use Rattle.wire.proofs.LawsOfReel.{length-reel_of_raw}
 use Rattle.tape.specs.Writable.{are_cells, is_writable}
 use Rattle.tape.specs.Item.{edm_item, bytes_of}
 use Rattle.tape.specs.Tape.{tape_of}
+use Rattle.tape.specs.Channel.{number_of_channel}
 use Rattle.tape.specs.Programme.{Cue, show, clear, wait, nulls_of, programme_of}
 use Rattle.tape.proofs.LawsOfSizes.{pairs_of-nulls_of}
 use Rattle.frames.specs.Held.{held_of}
@@ -27,25 +28,25 @@ use Rattle.steps.proofs.LawsOfTapes.{Sized, sized_tape, cue_room}
 
 -- more frames on the same channel
 pub fit_more : (h : Hand) (drawn : Bool) (frames : ℕ) → frames ≤ 16000 → Fit h → Fit (hand h.channel drawn frames)
-fit_more h drawn frames l f = record { low = f.low; high = f.high; room = l }
+fit_more h drawn frames l f = record { room = l }
 
-module _ (h : Hand) (screen raw : List ℕ) (frame : ℕ) (tape : raw ≡ tape_of screen h.channel) where
+module _ (h : Hand) (screen raw : List ℕ) (frame : ℕ) (tape : raw ≡ tape_of screen (number_of_channel h.channel)) where
   pub load_size : Sized raw
-  load_size = rw tape (sized_tape screen h.channel)
+  load_size = rw tape (sized_tape screen (number_of_channel h.channel))
 
   -- the plan of the step
   load_plan : {p : Result ℕ Wrong} → p ≡ plan_of h.frames (length raw / 2) frame → (cues : List Cue) → h.frames ≡ pairs_of (programme_of cues) → p ≡ show_plan (take_of h screen cues) frame
   load_plan e cues n = e ∙ (λ i. plan_of (n i) ((load_size.pairs ∙ ap pairs_of tape) i) frame)
 
   module _ {held : ℕ} (e : Ok held ≡ plan_of h.frames (length raw / 2) frame) where
-    load_cued : Cued raw held (show screen h.channel held ∷ [])
-    load_cued = rw tape (show_cued h.channel screen held)
+    load_cued : Cued raw held (show screen (number_of_channel h.channel) held ∷ [])
+    load_cued = rw tape (show_cued (number_of_channel h.channel) screen held)
 
     pub load_end : h.frames + length raw / 2 + held ≤ 16000
     load_end = (plan_held h.frames (length raw / 2) frame e).1
 
     pub load_room : (out : List ℕ) → length out ≡ 80000 → h.frames * 5 + length (held_of raw held) ≤ length out
-    load_room out size = let s = load_size.pairs in cue_room raw held (show screen h.channel held ∷ []) h.frames out load_cued (omega (arith, load_end)) size
+    load_room out size = let s = load_size.pairs in cue_room raw held (show screen (number_of_channel h.channel) held ∷ []) h.frames out load_cued (omega (arith, load_end)) size
 
     pub load_kept : (out : List ℕ) → (are_cells screen && is_writable screen) ≡ true → {screen₁ out₁ : List ℕ} → length screen ≡ 960 → screen₁ ≡ replicate (length screen) 0
         → out₁ ≡ over out (h.frames * 5) (held_of raw held) → Does (λ t. show_of t frame) h screen out (Ok (hand h.channel false (h.frames + length raw / 2 + held))) screen₁ out₁
@@ -53,8 +54,8 @@ module _ (h : Hand) (screen raw : List ℕ) (frame : ℕ) (tape : raw ≡ tape_o
     load_kept out fit {screen₁} size b o =
         let empty : blank ≡ screen₁ = ap (λ (n : ℕ). replicate n 0) (sym size) ∙ sym b in
         let s = load_size.pairs in
-        does_cues (λ t. show_of t frame) h screen out (show screen h.channel held ∷ []) (omega (arith, load_cued.count)) (o ∙ ap (over out (h.frames * 5)) load_cued.lines)
-        (λ cues n. show_kept (take_of h screen cues) frame fit (load_plan e cues n) ∙ (λ i. went 0 0 (take h.channel false (empty i) (cues ++ (show screen h.channel held ∷ [])))))
+        does_cues (λ t. show_of t frame) h screen out (show screen (number_of_channel h.channel) held ∷ []) (omega (arith, load_cued.count)) (o ∙ ap (over out (h.frames * 5)) load_cued.lines)
+        (λ cues n. show_kept (take_of h screen cues) frame fit (load_plan e cues n) ∙ (λ i. went 0 0 (take (number_of_channel h.channel) false (empty i) (cues ++ (show screen (number_of_channel h.channel) held ∷ [])))))
 
   pub load_wrong : (out : List ℕ) → (are_cells screen && is_writable screen) ≡ true → {wrong : Wrong} → Err wrong ≡ plan_of h.frames (length raw / 2) frame
       → Does (λ t. show_of t frame) h screen out (Err wrong) screen out
@@ -68,23 +69,23 @@ module _ (h : Hand) (frame : ℕ) where
     pub clear_end : h.frames + 2 + held ≤ 16000
     clear_end = (plan_held h.frames 2 frame e).1
 
-    module _ (raw out : List ℕ) (edm : raw ≡ bytes_of h.channel edm_item) where
-      edm_cued : Cued raw held (wait held ∷ clear h.channel ∷ [])
-      edm_cued = rw edm (clear_cued h.channel held)
+    module _ (raw out : List ℕ) (edm : raw ≡ bytes_of (number_of_channel h.channel) edm_item) where
+      edm_cued : Cued raw held (wait held ∷ clear (number_of_channel h.channel) ∷ [])
+      edm_cued = rw edm (clear_cued (number_of_channel h.channel) held)
 
       edm_pairs : pairs_of raw ≡ 2
-      edm_pairs = ap pairs_of edm ∙ pairs_edm h.channel
+      edm_pairs = ap pairs_of edm ∙ pairs_edm (number_of_channel h.channel)
 
       pub clear_room : length out ≡ 80000 → h.frames * 5 + length (held_of raw held) ≤ length out
-      clear_room size = let two = edm_pairs in cue_room raw held (wait held ∷ clear h.channel ∷ []) h.frames out edm_cued (omega (arith, clear_end)) size
+      clear_room size = let two = edm_pairs in cue_room raw held (wait held ∷ clear (number_of_channel h.channel) ∷ []) h.frames out edm_cued (omega (arith, clear_end)) size
 
       pub clear_goes : (screen : List ℕ) {r : Hand} {out₁ : List ℕ} → r ≡ hand h.channel h.drawn (h.frames + (2 + held))
           → out₁ ≡ over out (h.frames * 5) (held_of raw held) → Does (λ t. clear_of t frame) h screen out (Ok r) screen out₁
       clear_goes screen r o =
           let two = edm_pairs in
-          does_cues (λ t. clear_of t frame) h screen out (wait held ∷ clear h.channel ∷ []) (ap (λ (k : Hand). k.frames) r ∙ omega (arith, edm_cued.count))
+          does_cues (λ t. clear_of t frame) h screen out (wait held ∷ clear (number_of_channel h.channel) ∷ []) (ap (λ (k : Hand). k.frames) r ∙ omega (arith, edm_cued.count))
           (o ∙ ap (over out (h.frames * 5)) edm_cued.lines)
-          (λ cues n. clear_kept (take_of h screen cues) frame (edm_plan e cues n) ∙ (λ i. went 0 0 (take_of (sym r i) screen (cues ++ (wait held ∷ clear h.channel ∷ [])))))
+          (λ cues n. clear_kept (take_of h screen cues) frame (edm_plan e cues n) ∙ (λ i. went 0 0 (take_of (sym r i) screen (cues ++ (wait held ∷ clear (number_of_channel h.channel) ∷ [])))))
 
   pub clear_stopped : (screen out : List ℕ) {wrong : Wrong} → Err wrong ≡ plan_of h.frames 2 frame → Does (λ t. clear_of t frame) h screen out (Err wrong) screen out
   clear_stopped screen out e = does_stopped (λ t. clear_of t frame) h screen out (λ cues n. clear_wrong (take_of h screen cues) frame (edm_plan e cues n))

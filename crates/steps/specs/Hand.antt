@@ -5,6 +5,8 @@ use Rattle.std.specs.Prelude.{◌≡◌, Bool, List, ℕ, ◌+◌, ◌-◌, ◌�
 use Rattle.facts.specs.Choice.{pick}
 use Rattle.facts.specs.Over.{over}
 use Rattle.wire.specs.Reel.{pairs_of, reel_of_raw}
+use Rattle.tape.specs.declared.Channel.{Channel}
+use Rattle.tape.specs.Channel.{number_of_channel}
 use Rattle.tape.specs.Programme.{Cue, programme_of}
 use Rattle.steps.specs.declared.Hand.{Hand}
 use Rattle.steps.specs.declared.Wrong.{Wrong}
@@ -12,13 +14,11 @@ use Rattle.steps.specs.declared.Wrong.TheVariants.{TooManyFrames, TooEarly}
 use Rattle.steps.specs.Take.{Take, take, Went, went, is_kept}
 use Rattle.steps.specs.Wrong.{number_of_wrong, earliest_of, wrong_of}
 
-abbrev pub hand : ℕ → Bool → ℕ → Hand
+abbrev pub hand : Channel → Bool → ℕ → Hand
 hand channel drawn frames = record { channel = channel; drawn = drawn; frames = frames }
 
 -- what every step asks and keeps
 pub record Fit (h : Hand) : Type 0 where
-  pub low : 1 ≤ h.channel
-  pub high : h.channel ≤ 2
   pub room : h.frames ≤ 16000
 
 -- what is in hand behind a step; nothing is done where one is wrong
@@ -28,7 +28,7 @@ hand_of h (Err wrong) = h
 
 -- the take, with the screen, which is lent, and the cues so far
 abbrev pub take_of : Hand → List ℕ → List Cue → Take
-take_of h screen cues = take h.channel h.drawn screen cues
+take_of h screen cues = take (number_of_channel h.channel) h.drawn screen cues
 
 -- what the last step came to
 abbrev pub went_of : Hand → Option Wrong → List ℕ → List Cue → Went

@@ -1,5 +1,6 @@
 // Screens shown, the display cleared, and frames that say nothing, each at its frame.
 ghost use Rattle.std.specs.Prelude.{◌≡◌, true, ◌&&◌, List, ℕ, ◌+◌, ◌≤◌, ◌<◌, IfOk, length};
+ghost use Rattle.tape.specs.Channel.{number_of_channel};
 ghost use Rattle.tape.specs.Writable.{are_cells, is_writable};
 ghost use Rattle.tape.specs.Tape.{tape_of};
 ghost use Rattle.steps.specs.Take.{show_of, clear_of, wait_of};
@@ -33,7 +34,7 @@ fn load(
     frame: usize,
 ) -> Result<Hand, Wrong>
     requires { Fit hand × (length screen.old ≡ 960) × (length out.old ≡ 80000) × (frame < 65536)
-        × (raw.now ≡ tape_of screen.old hand.channel) × ((are_cells screen.old && is_writable screen.old) ≡ true) }
+        × (raw.now ≡ tape_of screen.old (number_of_channel hand.channel)) × ((are_cells screen.old && is_writable screen.old) ≡ true) }
     ensures fit { IfOk result (λ next. Fit next) }
     ensures does { Does (λ t. show_of t frame) hand screen.old out.old result screen.new out.new }
 {
@@ -56,7 +57,7 @@ pub fn show(hand: Hand, screen: &mut [u8], out: &mut [u8], frame: usize) -> Resu
     ensures does { Does (λ t. show_of t frame) hand screen.old out.old result screen.new out.new }
 {
     let mut tape = [0u8; 4096];
-    match writer::write_tape(screen, hand.channel, &mut tape) {
+    match writer::write_tape(screen, u8::from(hand.channel), &mut tape) {
         Ok(n) => load(hand, screen, out, &tape[..n as usize], frame),
         Err(_) => Err(Wrong::NotWritable),
     }

@@ -9,6 +9,8 @@ ghost use Rattle.steps.specs.Take.{switch_of};
 ghost use Rattle.steps.specs.Wrong.{number_of};
 ghost use Rattle.steps.specs.Hand.{hand, Fit, Does};
 
+use tape::Channel;
+
 // Why a step is not kept.
 #[derive(Clone, Copy, Debug, PartialEq, Eq)]
 pub enum Wrong {
@@ -46,7 +48,7 @@ impl From<Wrong> for u8 {
 // What is in hand between two steps: the channel that is written for, whether a screen is still to be shown, and how many frames there are.
 #[derive(Clone, Copy, Debug, PartialEq, Eq)]
 pub struct Hand {
-    pub channel: u8,
+    pub channel: Channel,
     pub drawn: bool,
     pub frames: usize,
 }
@@ -72,12 +74,11 @@ impl Hand {
         if self.drawn {
             return Err(Wrong::Unshown);
         }
-        if number < 1 || 2 < number {
-            return Err(Wrong::NoSuch);
-        }
-        Ok(Hand {
-            channel: number as u8,
-            ..self
-        })
+        let channel = match number {
+            1 => Channel::One,
+            2 => Channel::Two,
+            _ => return Err(Wrong::NoSuch),
+        };
+        Ok(Hand { channel, ..self })
     }
 }

@@ -1,6 +1,7 @@
 -- `clear` meets its contract. Assumes nothing.
 use native.Mathlib.Omega.{arith}
 use borrow.Author.Rules.{rules}
+use Rattle.tape.specs.Channel.{number_of_channel}
 use Rattle.steps.specs.Take.{clear_of}
 use Rattle.steps.proofs.LawsOfHand.{does_exit}
 use Rattle.steps.proofs.LawsOfCues.{length_edm, edm_is}
@@ -13,12 +14,12 @@ returns-in_err-held-clause-does c =
     λ screen. does_exit (λ t. clear_of t a.frame) a.hand screen a.out.now c.from_residual.result c.from_residual.ensures.1 (clear_stopped a.hand a.frame screen a.out.now c.in_err-held.ensures)
 
 pub put_item-requires : goal.put_item-requires
-put_item-requires c = let a = c.args in (search rules, search rules, omega (arith, length_edm a.hand.channel))
+put_item-requires c = let a = c.args in omega (arith, length_edm (number_of_channel a.hand.channel))
 
 pub put_held-requires : goal.put_held-requires
 put_held-requires c =
     let a = c.args in
-    let edm = edm_is a.hand.channel c.put_item.ensures.bytes in
+    let edm = edm_is (number_of_channel a.hand.channel) c.put_item.ensures.bytes in
     (search rules, clear_room a.hand a.frame c.in_ok-held.ensures _ a.out.now edm c.requires.1)
 
 pub further-requires : goal.further-requires
@@ -35,5 +36,5 @@ returns-clause-fit c =
 pub returns-clause-does : goal.returns-clause-does
 returns-clause-does c =
     let a = c.args in
-    let edm = edm_is a.hand.channel c.put_item.ensures.bytes in
+    let edm = edm_is (number_of_channel a.hand.channel) c.put_item.ensures.bytes in
     λ screen. clear_goes a.hand a.frame c.in_ok-held.ensures _ a.out.now edm screen c.further.ensures c.put_held.ensures.bytes
