@@ -1,4 +1,6 @@
 // One item of a tape: what comes next by the cells of a row, a row's preamble, and the raw bytes of an item behind what a buffer holds already.
+// A buffer with how much of it is laid stays as it is: (d) texts of any length stand one behind the other here, and a call that were lent the rest alone would
+// give back its own length, to be added at each call to what was laid before, where `n` says both.
 #![tactic(auto)]
 
 mod rows;

@@ -1,6 +1,6 @@
 -- Which step stands at a place of a script, and one step more. Assumes nothing.
 use mathlib.Core.Path.{◌≡◌, refl, sym, ap, ◌∙◌}
-use mathlib.Core.Bool.{Bool, true, false, ◌&&◌}
+use mathlib.Core.Bool.{Bool, true, false, ◌&&◌, not}
 use mathlib.Core.List.{List, []}
 use Prim.Native.Nat.{ℕ, zero, suc, ◌+◌, ◌*◌, ◌<◌, ◌≤◌}
 use native.Mathlib.Numerals.{add-one}
@@ -19,7 +19,7 @@ use Rattle.steps.specs.declared.Hand.{Hand}
 use Rattle.steps.specs.declared.Wrong.{Wrong}
 use Rattle.script.specs.Step.{Step, none, size, step_at}
 use Rattle.steps.specs.Take.{take, blank, Went, went, show_of}
-use Rattle.steps.specs.Wrong.{number_of, wrong_of}
+use Rattle.steps.specs.Wrong.{wrong_number_of, wrong_of}
 use Rattle.script.specs.Script.{Made, made, step_of, on_of, kept_of, more_of, reached_of, show_last_of}
 use Rattle.steps.specs.Hand.{hand, Fit, hand_of, take_of, Goes, Does}
 use Rattle.steps.proofs.LawsOfCells.{some_number}
@@ -58,12 +58,12 @@ module _ (w : Went) (s : Step) where
   on_wrong some = rw (ne_eqb w.wrong 0 some)
 
 -- the last step so far, and the next one
-abbrev next_of : List ℕ → ℕ → Went
-next_of script k = on_of (reached_of script k).last (step_at script (k * size))
+abbrev next_went : List ℕ → ℕ → Went
+next_went script k = on_of (reached_of script k).last (step_at script (k * size))
 
 -- the next step, of which r is given back
 goes_next : (script : List ℕ) (k : ℕ) {h : Hand} {screen out : List ℕ} (first : List ℕ) → Reaches script k h screen first out → (r : Result Hand Wrong) {screen₁ out₁ : List ℕ}
-    → Does (λ t. step_of t (step_at script (k * 40))) h screen out r screen₁ out₁ → Goes (next_of script k) (hand_of h r) (wrong_of r) screen₁ first out₁
+    → Does (λ t. step_of t (step_at script (k * 40))) h screen out r screen₁ out₁ → Goes (next_went script k) (hand_of h r) (wrong_of r) screen₁ first out₁
 goes_next script k {h} {screen} {out} first p r d =
     goes_at (on_right (reached_of script k).last (step_at script (k * 40)) (sym (ap (λ (v : Went). v.wrong) p.goes.same)))
     (goes_then (λ t. step_of t (step_at script (k * 40))) h screen out r first p.goes d)
@@ -73,8 +73,8 @@ pub reach_more : (script : List ℕ) (k : ℕ) {h : Hand} {screen out : List ℕ
 unfolding reached_of
 reach_more script k first p {q} fit d =
     let goes = goes_next script k first p (Ok q) d in
-    let right : (next_of script k).wrong ≡ 0 = sym (ap (λ (v : Went). v.wrong) goes.same) in
-    let kept : kept_of (reached_of script k).kept (next_of script k).wrong ≡ suc k = (λ i. kept_of (p.kept i) (right i)) ∙ add-one k in
+    let right : (next_went script k).wrong ≡ 0 = sym (ap (λ (v : Went). v.wrong) goes.same) in
+    let kept : kept_of (reached_of script k).kept (next_went script k).wrong ≡ suc k = (λ i. kept_of (p.kept i) (right i)) ∙ add-one k in
     rw add-one (record { fit = fit; kept = kept; goes = goes })
 
 -- A wrong step is the last.
@@ -100,10 +100,10 @@ pub reach_stopped : (script : List ℕ) (k n : ℕ) {h : Hand} {screen out : Lis
 unfolding reached_of
 reach_stopped script k n first p {wrong} l d =
     let goes = goes_next script k first p (Err wrong) d in
-    let number : number_of wrong ≡ (next_of script k).wrong = ap (λ (v : Went). v.wrong) goes.same in
-    let some : (next_of script k).wrong ≡ 0 → ⊥ = λ z. some_number wrong (number ∙ z) in
+    let number : wrong_number_of wrong ≡ (next_went script k).wrong = ap (λ (v : Went). v.wrong) goes.same in
+    let some : (next_went script k).wrong ≡ 0 → ⊥ = λ z. some_number wrong (number ∙ z) in
     let stays : reached_of script n ≡ more_of (reached_of script k) (step_at script (k * size)) = reached_stays script (suc k) n some (omega arith) in
-    let kept : kept_of (reached_of script k).kept (next_of script k).wrong ≡ k = rw (ne_eqb (next_of script k).wrong 0 some) p.kept in
+    let kept : kept_of (reached_of script k).kept (next_went script k).wrong ≡ k = rw (ne_eqb (next_went script k).wrong 0 some) p.kept in
     record {
       kept = sym (ap (λ (m : Made). m.kept) stays ∙ kept);
       goes = goes_at (ap (λ (m : Made). m.last) stays) goes;
@@ -135,14 +135,18 @@ module _ {w : Went} {h : Hand} {screen out : List ℕ} (first : List ℕ) where
   last_shown None right drawn g r d = goes_at (ap show_last_of (sym g.same) ∙ shown_right h screen w.to.cues drawn) (d w.to.cues first g.stands)
 
   -- none where a step was wrong
-  pub last_wrong : (wrong : Option Wrong) → is_some wrong ≡ true → Goes w h wrong screen first out → Goes (show_last_of w) h wrong screen first out
+  last_wrong : (wrong : Option Wrong) → is_some wrong ≡ true → Goes w h wrong screen first out → Goes (show_last_of w) h wrong screen first out
   unfolding show_last_of
   last_wrong None some g = absurd (false≢true some)
   last_wrong (Some wrong) some g =
-      let e : number_of wrong ≡ w.wrong = ap (λ (v : Went). v.wrong) g.same in
+      let e : wrong_number_of wrong ≡ w.wrong = ap (λ (v : Went). v.wrong) g.same in
       goes_at (rw (ne_eqb w.wrong 0 (λ z. some_number wrong (e ∙ z)))) g
 
   -- none where no screen is still to be shown
-  pub last_empty : (wrong : Option Wrong) → h.drawn ≡ false → Goes w h wrong screen first out → Goes (show_last_of w) h wrong screen first out
+  last_empty : (wrong : Option Wrong) → h.drawn ≡ false → Goes w h wrong screen first out → Goes (show_last_of w) h wrong screen first out
   unfolding show_last_of
   last_empty wrong empty g = goes_at (none_either (eqb w.wrong 0) w.to.drawn (show_of w.to 0) w (sym (ap (λ (v : Went). v.to.drawn) g.same) ∙ empty)) g
+
+  pub last_kept : (wrong : Option Wrong) (right : Bool) → is_some wrong ≡ not right → (right && h.drawn) ≡ false → Goes w h wrong screen first out → Goes (show_last_of w) h wrong screen first out
+  last_kept wrong true s e g = last_empty wrong e g
+  last_kept wrong false s e g = last_wrong wrong s g

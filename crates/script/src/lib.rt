@@ -102,7 +102,8 @@ fn show_last(reached: Reached, screen: &mut [u8], out: &mut [u8]) -> Reached
     ensures goes { (w : Went) (first : List ℕ) → Goes w reached.hand reached.wrong screen.old first out.old
         → Goes (show_last_of w) result.hand result.wrong screen.new first out.new }
 {
-    if reached.wrong.is_none() && reached.hand.drawn {
+    let due = reached.wrong.is_none() & reached.hand.drawn;
+    if due {
         return match cues::show(reached.hand, screen, out, 0) {
             Ok(hand) => Reached { hand, ..reached },
             Err(wrong) => Reached {

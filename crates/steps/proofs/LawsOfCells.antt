@@ -19,7 +19,7 @@ use Rattle.steps.specs.declared.Hand.{Hand}
 use Rattle.steps.specs.declared.Wrong.{Wrong}
 use Rattle.steps.specs.declared.Wrong.TheVariants.{WrongLength, NoSuch, TooManyFrames, Invalid, NotWritable, TooEarly, Unshown}
 use Rattle.steps.specs.Take.{Take, take, Went, went, cells_of, is_place, row_at, typed_of, wrong_row_of, put_of}
-use Rattle.steps.specs.Wrong.{number_of, frame_of}
+use Rattle.steps.specs.Wrong.{wrong_number_of, wrong_frame_of}
 use Rattle.steps.specs.Hand.{hand, take_of, Does}
 use Rattle.steps.proofs.LawsOfHand.{does_same, does_stopped}
 
@@ -77,7 +77,7 @@ module _ (t : Take) (row column pen : ℕ) (codes : List ℕ) where
   put_nowhere p = rw p
 
 -- what is wrong has a number
-pub some_number : (wrong : Wrong) → number_of wrong ≡ 0 → ⊥
+pub some_number : (wrong : Wrong) → wrong_number_of wrong ≡ 0 → ⊥
 some_number WrongLength e = omega arith
 some_number NoSuch e = omega arith
 some_number TooManyFrames e = omega arith
@@ -108,11 +108,11 @@ module _ (h : Hand) (screen : List ℕ) (row column pen : ℕ) (codes : List ℕ
         does_same puts h screen out refl
         (λ cues n. put_kept (take_of h screen cues) row column pen codes place (sym (is_wrong e)) ∙ (λ i. went 0 0 (take (number_of_channel h.channel) true (sym shown i) cues)))
 
-    pub stops_put : {wrong : Wrong} → number_of wrong ≡ wrong_row_of typed (row_at row) → frame_of wrong ≡ 0 → (out : List ℕ) → Does (λ t. put_of t row column pen codes) h screen out (Err wrong) screen out
+    pub stops_put : {wrong : Wrong} → wrong_number_of wrong ≡ wrong_row_of typed (row_at row) → wrong_frame_of wrong ≡ 0 → (out : List ℕ) → Does (λ t. put_of t row column pen codes) h screen out (Err wrong) screen out
     unfolding puts
     stops_put {wrong} e z out =
         does_stopped puts h screen out
-        (λ cues n. put_wrong (take_of h screen cues) row column pen codes place (is_wrong e) (some_number wrong) ∙ (λ i. went (number_of wrong) (sym z i) (take_of h screen cues)))
+        (λ cues n. put_wrong (take_of h screen cues) row column pen codes place (is_wrong e) (some_number wrong) ∙ (λ i. went (wrong_number_of wrong) (sym z i) (take_of h screen cues)))
 
   pub stops_place : is_place row column (length codes) ≡ false → (out : List ℕ) → Does (λ t. put_of t row column pen codes) h screen out (Err NoSuch) screen out
   unfolding puts

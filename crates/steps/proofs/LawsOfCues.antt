@@ -21,7 +21,7 @@ use Rattle.frames.specs.Held.{held_of}
 use Rattle.frames.proofs.Laws.{held_of_then}
 use Rattle.steps.specs.declared.Wrong.{Wrong}
 use Rattle.steps.specs.Take.{Take, frame_count_of, went, timed_of, after_show_of, after_clear_of, after_wait_of, show_of, clear_of, wait_of}
-use Rattle.steps.specs.Wrong.{number_of, frame_of}
+use Rattle.steps.specs.Wrong.{wrong_number_of, wrong_frame_of}
 use Rattle.steps.specs.Hand.{plan_of}
 use Rattle.steps.proofs.LawsOfHand.{frames_more}
 use Rattle.steps.proofs.LawsOfPlan.{plan_held, timed_kept, timed_wrong}
@@ -100,7 +100,7 @@ module _ (t : Take) (frame : ℕ) where
         let held = frame - (frame_count_of t + pairs - 1) in
         rw fit (timed_kept (frame_count_of t) pairs frame t (after_show_of t held) (show_frames held) e ∙ ap (λ (k : ℕ). went 0 0 (after_show_of t k)) (sym (plan_held (frame_count_of t) pairs frame e).0))
 
-    pub show_wrong : {wrong : Wrong} → Err wrong ≡ show_plan → show_of t frame ≡ went (number_of wrong) (frame_of wrong) t
+    pub show_wrong : {wrong : Wrong} → Err wrong ≡ show_plan → show_of t frame ≡ went (wrong_number_of wrong) (wrong_frame_of wrong) t
     unfolding show_of
     show_wrong e =
         let pairs = pairs_of (tape_of t.screen t.channel) in
@@ -125,7 +125,7 @@ module _ (t : Take) (frame : ℕ) where
       ∙ timed_kept (frame_count_of t) 2 frame t (after_clear_of t held) (clear_frames held) e
       ∙ ap (λ (k : ℕ). went 0 0 (after_clear_of t k)) (sym (plan_held (frame_count_of t) 2 frame e).0)
 
-  pub clear_wrong : {wrong : Wrong} → Err wrong ≡ clear_plan → clear_of t frame ≡ went (number_of wrong) (frame_of wrong) t
+  pub clear_wrong : {wrong : Wrong} → Err wrong ≡ clear_plan → clear_of t frame ≡ went (wrong_number_of wrong) (wrong_frame_of wrong) t
   unfolding clear_of
   clear_wrong e =
       let held = frame - (frame_count_of t + 2 - 1) in

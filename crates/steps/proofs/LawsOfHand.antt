@@ -16,7 +16,7 @@ use Rattle.tape.proofs.LawsOfSizes.{programme_of_then, programme_of_pairs}
 use Rattle.steps.specs.declared.Hand.{Hand}
 use Rattle.steps.specs.declared.Wrong.{Wrong}
 use Rattle.steps.specs.Take.{Take, Went, went}
-use Rattle.steps.specs.Wrong.{number_of, frame_of, wrong_of}
+use Rattle.steps.specs.Wrong.{wrong_number_of, wrong_frame_of, wrong_of}
 use Rattle.steps.specs.Hand.{hand, Fit, hand_of, take_of, Goes, Does}
 
 -- the same channel, and no frame more
@@ -56,7 +56,7 @@ module _ (f : Take → Went) (h : Hand) (screen out : List ℕ) where
       })
 
   -- nothing is done
-  pub does_stopped : {wrong : Wrong} → ((cues : List Cue) → h.frames ≡ pairs_of (programme_of cues) → f (take_of h screen cues) ≡ went (number_of wrong) (frame_of wrong) (take_of h screen cues))
+  pub does_stopped : {wrong : Wrong} → ((cues : List Cue) → h.frames ≡ pairs_of (programme_of cues) → f (take_of h screen cues) ≡ went (wrong_number_of wrong) (wrong_frame_of wrong) (take_of h screen cues))
       → Does f h screen out (Err wrong) screen out
   does_stopped w cues first s = goes_at (w cues s.frames) (record { same = refl; stands = s })
 

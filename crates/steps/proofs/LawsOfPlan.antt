@@ -10,7 +10,7 @@ use Rattle.facts.specs.Choice.{pick}
 use Rattle.steps.specs.declared.Wrong.{Wrong}
 use Rattle.steps.specs.declared.Wrong.TheVariants.{TooManyFrames, TooEarly}
 use Rattle.steps.specs.Take.{Take, frame_count_of, Went, went, is_kept, timed_of}
-use Rattle.steps.specs.Wrong.{number_of, frame_of, number_of_wrong, wrong_of}
+use Rattle.steps.specs.Wrong.{wrong_number_of, wrong_frame_of, number_of_wrong, wrong_of}
 use Rattle.steps.specs.Hand.{plan_of}
 
 value : Result ℕ Wrong → ℕ
@@ -34,7 +34,7 @@ module _ (earliest held : ℕ) where
     -- how it goes on, by the plan
     abbrev came : Result ℕ Wrong → Went
     came (Ok held) = went 0 0 next
-    came (Err wrong) = went (number_of wrong) (frame_of wrong) t
+    came (Err wrong) = went (wrong_number_of wrong) (wrong_frame_of wrong) t
 
     choice_came : (kept fits : Bool) → pick kept (pick fits (went 0 0 next) (went 3 0 t)) (went 8 earliest t) ≡ came (choice kept fits)
     choice_came true true = refl
@@ -58,5 +58,5 @@ module _ (frames pairs frame : ℕ) where
     pub timed_kept : {held : ℕ} → Ok held ≡ plan_of frames pairs frame → timed_of t frame (frames + pairs - 1) next ≡ went 0 0 next
     timed_kept e = timed_came ∙ ap (came (frames + pairs - 1) (frame - (frames + pairs - 1)) t next) (sym e)
 
-    pub timed_wrong : {wrong : Wrong} → Err wrong ≡ plan_of frames pairs frame → timed_of t frame (frames + pairs - 1) next ≡ went (number_of wrong) (frame_of wrong) t
+    pub timed_wrong : {wrong : Wrong} → Err wrong ≡ plan_of frames pairs frame → timed_of t frame (frames + pairs - 1) next ≡ went (wrong_number_of wrong) (wrong_frame_of wrong) t
     timed_wrong e = timed_came ∙ ap (came (frames + pairs - 1) (frame - (frames + pairs - 1)) t next) (sym e)

@@ -6,7 +6,7 @@ pub mod cues;
 
 ghost use Rattle.std.specs.Prelude.{◌≡◌, List, ℕ, ◌+◌, ◌≤◌, IfOk};
 ghost use Rattle.steps.specs.Take.{switch_of};
-ghost use Rattle.steps.specs.Wrong.{number_of};
+ghost use Rattle.steps.specs.Wrong.{wrong_number_of};
 ghost use Rattle.steps.specs.Hand.{hand, Fit, Does};
 
 use tape::Channel;
@@ -30,7 +30,7 @@ pub enum Wrong {
 
 // The paper's number, and behind those 8 and 9 for a script's own.
 impl From<Wrong> for u8 {
-    ghost from_gives = { λ wrong number. number ≡ number_of wrong };
+    ghost from_gives = { λ wrong number. number ≡ wrong_number_of wrong };
 
     fn from(wrong: Wrong) -> u8 {
         match wrong {

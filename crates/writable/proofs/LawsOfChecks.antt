@@ -2,12 +2,13 @@
 use mathlib.Core.Path.{◌≡◌, refl, ap, ◌∙◌}
 use mathlib.Core.Bool.{Bool, true, false, ◌&&◌}
 use mathlib.Core.List.{List}
-use Prim.Native.Nat.{ℕ, zero, suc, ◌+◌}
+use Prim.Native.Nat.{ℕ, zero, suc, ◌+◌, ◌*◌}
 use native.Mathlib.Omega.{arith}
 use Rattle.std.specs.List.{list_all, range_with_len}
 use Rattle.facts.specs.Every.{every}
 use Rattle.record.specs.Layout.{code_at, pen_at}
-use Rattle.tape.specs.Writable.{row_pen_of, is_steady, is_cell_of, is_row_writable}
+use Rattle.valid.specs.Check.{is_row}
+use Rattle.tape.specs.Writable.{are_cells, row_pen_of, is_steady, is_cell_of, is_row_writable, is_writable}
 
 module _ (f : ℕ → Bool) where
   and_then : (a b c : Bool) → (a && (b && c)) ≡ ((a && b) && c)
@@ -37,3 +38,11 @@ module _ (memory : List ℕ) where
   pub row_joined : (at : ℕ) {pen : ℕ} {steady ok : Bool} → pen ≡ row_pen_of memory at → steady ≡ is_steady pen → ok ≡ every (is_shared at pen) 32 → (steady && ok) ≡ is_row_writable memory at
   unfolding is_row_writable
   row_joined at e s t = (λ i. s i && t i) ∙ ap (λ (p : ℕ). is_steady p && every (is_shared at p) 32) e
+
+  pub cells_joined : list_all (λ r. is_row memory (r * 64)) (range_with_len 0 15) ≡ are_cells memory
+  unfolding are_cells
+  cells_joined = every_range (λ r. is_row memory (r * 64)) 15
+
+  pub rows-joined : list_all (λ r. is_row_writable memory (r * 64)) (range_with_len 0 15) ≡ is_writable memory
+  unfolding is_writable
+  rows-joined = every_range (λ r. is_row_writable memory (r * 64)) 15

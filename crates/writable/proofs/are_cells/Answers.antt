@@ -5,12 +5,10 @@ use borrow.Author.Rules.{rules}
 use Rattle.std.proofs.lemmas.Iterator.{YieldsList-from_range}
 use Rattle.std.proofs.lemmas.Iterator.Search.{all_from_yields_List}
 use Rattle.valid.specs.Check.{is_row}
-use Rattle.tape.specs.Writable.{are_cells}
-use Rattle.writable.proofs.LawsOfChecks.{every_range}
+use Rattle.writable.proofs.LawsOfChecks.{cells_joined}
 use Rattle.writable.proofs.are_cells.Goals as goal
 
 pub returns : goal.returns
-unfolding are_cells
 returns c =
     let test = λ (r : ℕ). is_row c.args.memory.now (r * 64) in
-    all_from_yields_List test _ _ _ c.all.ensures.ran (YieldsList-from_range 0 15 15 refl refl) (λ x b q k. search rules) ∙ every_range test 15
+    all_from_yields_List test _ _ _ c.all.ensures.ran (YieldsList-from_range 0 15 15 refl refl) (λ x b q k. search rules) ∙ cells_joined c.args.memory.now
