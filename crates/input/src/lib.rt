@@ -1,7 +1,7 @@
 // The whole of standard input, read after read, for a program that works on it when it is there; and what a program says of a call that fails.
 #![tactic(auto)]
 
-ghost use Rattle.std.specs.Prelude.{◌≤◌, length, MatchResult};
+ghost use Rattle.std.specs.Prelude.{◌≡◌, ◌≤◌, length, IfOk, MatchResult};
 
 use std::io;
 use std::io::{Read, Write};
@@ -26,6 +26,14 @@ fn words_of(text: &[u8]) -> &[u8] {
 // A write that fails is passed over, and the next one is tried. What a terminal or a file takes, no clause can say.
 pub fn print(to: &impl Print, words: &[u8]) {
     let _ = to.write_all(words);
+}
+
+// Bytes that go out are counted here and nowhere else; where the write fails, none are.
+pub fn send(to: &impl Print, bytes: &[u8]) -> io::Result<usize>
+    ensures { IfOk result (λ n. n ≡ length bytes.now) }
+{
+    to.write_all(bytes)?;
+    Ok(bytes.len())
 }
 
 // Says what failed, and why, on what is standard error in a program: a line, and no number in it.
