@@ -1,8 +1,8 @@
 // The characters of a text: letters that stand for themselves, and those in braces by name or by cell code.
 ghost use Rattle.std.specs.Prelude.{◌≤◌, length, IfSome};
 
-use crate::words;
 use crate::wrong::Wrong;
+use crate::{SIZE, words};
 
 // The characters that have a name, by their cell codes.
 const NAMES: [(&[u8], u8); 26] = [
@@ -65,7 +65,7 @@ fn next(first: u8, rest: &[u8]) -> Option<(u8, &[u8])>
 }
 
 // What stands behind the pen, and one space of it parts the two: the codes of the text stand from byte 8 of a step on, and byte 4 is how many there are.
-pub fn put_text(rest: &[u8], step: &mut [u8; 40], column: usize) -> Result<(), Wrong>
+pub fn put_text(rest: &[u8], step: &mut [u8; SIZE], column: usize) -> Result<(), Wrong>
     requires { column ≤ 32 }
 {
     let mut text = rest

@@ -27,11 +27,11 @@ enum Kind {
 
 // The kinds that have a number, each by its word: the least number that it takes and the most, 0 where nothing stands behind the word, and
 // what is wrong with any other.
-const NUMBERED: [(&[u8], Kind, u16, u16, Wrong); 4] = [
-    (b"show", Kind::Show, 0, 16000, Wrong::NoFrame),
-    (b"clear", Kind::Clear, 0, 16000, Wrong::NoFrame),
-    (b"wait", Kind::Wait, 1, 16000, Wrong::NoWait),
-    (b"channel", Kind::Channel, 1, 2, Wrong::NoChannel),
+const NUMBERED: [(&[u8], (Kind, u16, u16, Wrong)); 4] = [
+    (b"show", (Kind::Show, 0, 16000, Wrong::NoFrame)),
+    (b"clear", (Kind::Clear, 0, 16000, Wrong::NoFrame)),
+    (b"wait", (Kind::Wait, 1, 16000, Wrong::NoWait)),
+    (b"channel", (Kind::Channel, 1, 2, Wrong::NoChannel)),
 ];
 
 // The pens, each of which is underlined too where `-u` stands behind its name.
@@ -101,11 +101,7 @@ fn put(row: u32, rest: &[u8], line: usize) -> Result<[u8; SIZE], Wrong> {
 // The step of a line that is not passed over.
 fn step(text: &[u8], line: usize) -> Result<[u8; SIZE], Wrong> {
     let (word, rest) = words::next(text);
-    let Some((_, kind, least, most, wrong)) = NUMBERED
-        .iter()
-        .copied()
-        .find(|(name, ..)| *name == word)
-    else {
+    let Some((kind, least, most, wrong)) = words::named(&NUMBERED, word) else {
         let row = words::number(word).ok_or(Wrong::NoStep)?;
         return put(row, rest, line);
     };
@@ -136,7 +132,8 @@ pub fn read(text: &[u8], script: &mut [u8]) -> Reading
     let mut steps = 0;
     for (i, line) in text.split(|byte| *byte == b'\n').enumerate() {
         let line = line.strip_suffix(b"\r").unwrap_or(line);
-        if words::is_passed_over(line) {
+        // Blank lines, and those whose first word begins with `#`, are passed over.
+        if matches!(words::next(line).0, [] | [b'#', ..]) {
             continue;
         }
         match add_step(line, i + 1, script, steps) {

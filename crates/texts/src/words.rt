@@ -10,13 +10,6 @@ pub fn is_blank(line: &[u8]) -> bool {
     line.iter().all(|byte| is_space(*byte))
 }
 
-// A line that is blank, or whose first word begins with `#`.
-pub fn is_passed_over(line: &[u8]) -> bool {
-    line.iter()
-        .find(|byte| !is_space(**byte))
-        .is_none_or(|byte| *byte == b'#')
-}
-
 // The next word, and what stands behind it. There is none where all is blank.
 pub fn next(line: &[u8]) -> (&[u8], &[u8]) {
     let from = line
@@ -32,11 +25,16 @@ pub fn next(line: &[u8]) -> (&[u8], &[u8]) {
 }
 
 // One to five digits 0-9, and nothing else.
-pub fn number(word: &[u8]) -> Option<u32> {
+pub fn number(word: &[u8]) -> Option<u32>
+    ensures { IfSome result (λ n. n < 100000) }
+{
     if 5 < word.len() || !word.iter().all(|byte| byte.is_ascii_digit()) {
         return None;
     }
-    std::str::from_utf8(word).ok()?.parse().ok()
+    let Ok(digits) = std::str::from_utf8(word) else {
+        return None;
+    };
+    digits.parse().ok()
 }
 
 // A digit 0-9 A-F.
@@ -56,7 +54,7 @@ pub fn hex(high: u8, low: u8) -> Option<u8> {
 }
 
 // What a table says of a name.
-pub fn named(table: &[(&[u8], u8)], name: &[u8]) -> Option<u8> {
+pub fn named<T: Copy>(table: &[(&[u8], T)], name: &[u8]) -> Option<T> {
     table
         .iter()
         .find(|(own, _)| *own == name)
