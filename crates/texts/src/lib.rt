@@ -71,7 +71,7 @@ fn number_behind(rest: &[u8]) -> Option<u16> {
     if word.is_empty() {
         return Some(0);
     }
-    let n = u16::try_from(words::number(word)?).ok()?;
+    let n = words::number(word).and_then(|n| u16::try_from(n).ok())?;
     (n != 0 && words::is_blank(rest)).then_some(n)
 }
 
@@ -119,8 +119,9 @@ fn add_step(text: &[u8], line: usize, script: &mut [u8], steps: usize) -> Result
     if steps == MOST {
         return Err(Wrong::TooManySteps);
     }
+    let step = step(text, line)?;
     let at = steps * SIZE;
-    script[at..at + SIZE].copy_from_slice(&step(text, line)?);
+    script[at..at + SIZE].copy_from_slice(&step);
     Ok(steps + 1)
 }
 

@@ -50,7 +50,9 @@ fn digit(byte: u8) -> Option<u8>
 
 // The byte of two digits 0-9 A-F.
 pub fn hex(high: u8, low: u8) -> Option<u8> {
-    Some(digit(high)? * 16 + digit(low)?)
+    let high = digit(high)?;
+    let low = digit(low)?;
+    Some(high * 16 + low)
 }
 
 // What a table says of a name.
