@@ -1,4 +1,6 @@
 -- The results, that no second answer fits, the paper's examples, and the laws that the calls' proofs cite.
+pub mod LawsOfFound
+pub mod LawsOfRows
 pub mod Laws
 pub mod LawsOfRecords
 pub mod Unique

@@ -31,7 +31,7 @@ fn step(state: State, cells: &mut [u8], kind: u8, first: u8, second: u8) -> Stat
 }
 
 // Most acts are pairs, and a pair is told by its first byte.
-fn is_formed(kind: u8, first: u8, second: u8) -> bool
+pub fn is_formed(kind: u8, first: u8, second: u8) -> bool
     ensures { result ≡ is_formed kind first second }
 {
     if kind == 1 {
