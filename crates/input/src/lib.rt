@@ -1,6 +1,9 @@
 // The whole of standard input, read after read, for a program that works on it when it is there; and what a program says of a call that fails.
 #![tactic(auto)]
 
+pub mod cuts;
+pub mod sums;
+
 ghost use Rattle.std.specs.Prelude.{◌≤◌, length, MatchResult};
 
 use std::io;
@@ -53,4 +56,17 @@ pub fn read_all<R: Input>(rt: &R, into: &mut [u8]) -> Result<usize, Cut>
         n += came;
     }
     Ok(n)
+}
+
+// The same for a program that works on what had come before a read failed: that it failed is said, with why, and behind `what`.
+pub fn read_what_comes<R: Input>(rt: &R, err: &impl Print, into: &mut [u8], what: &[u8]) -> usize
+    ensures { result ≤ length into.old }
+{
+    match read_all(rt, into) {
+        Ok(n) => n,
+        Err(cut) => {
+            fail(err, what, cut.error);
+            cut.n
+        }
+    }
 }

@@ -1,0 +1,2 @@
+-- The laws of `input`.
+pub mod LawsOfSums
