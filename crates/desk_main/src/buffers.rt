@@ -1,7 +1,7 @@
 // The three buffers, and the calls on what is lent of them.
 use crate::line::{Buffer, Call, Lent};
 use crate::song::SONG;
-use desk::Answer;
+use desk::Refusal;
 
 // Each buffer has a byte more than the desk asks for, so that a call can be lent one too many.
 #[derive(Drop)]
@@ -25,8 +25,8 @@ fn lend(buffer: &mut [u8], n: usize) -> &mut [u8] {
 }
 
 // As many pairs of the song, from its first.
-fn take_many(desk: &mut [u8], log: &mut [u8], tray: &mut [u8], n: u32) -> Answer {
-    let mut answer = Answer::Done(0);
+fn take_many(desk: &mut [u8], log: &mut [u8], tray: &mut [u8], n: u32) -> Result<u16, Refusal> {
+    let mut answer = Ok(0);
     for pair in SONG.iter().cycle().take(n as usize) {
         let [first, second] = pair.to_be_bytes();
         answer = desk::take(desk, log, tray, first, second);
@@ -63,7 +63,7 @@ impl Buffers {
         &self.desk[..n]
     }
 
-    pub fn answer(&mut self, call: Call) -> Answer {
+    pub fn answer(&mut self, call: Call) -> Result<u16, Refusal> {
         let Buffers {
             desk,
             log,

@@ -1,43 +1,28 @@
 // What a call gave, as text.
-ghost use Rattle.std.specs.Prelude.{◌≡◌, ◌<◌};
+ghost use Rattle.std.specs.Prelude.{◌≡◌};
 ghost use Rattle.desk.specs.Numbers.{number_of, value_of};
 
 use crate::buffers::Buffers;
-use desk::Answer;
+use desk::Refusal;
 use input::sums::sum;
 
-fn number(answer: Answer) -> u64
-    ensures { result ≡ number_of answer }
+fn number_and_value(answer: Result<u16, Refusal>) -> (u16, u16)
+    ensures { (result.0 ≡ number_of answer) × (result.1 ≡ value_of answer) }
 {
     match answer {
-        Answer::Done(_) => 0,
-        Answer::WrongLength => 1,
-        Answer::NoSuch => 2,
-        Answer::Full => 3,
-        Answer::TooFar => 4,
-        Answer::Invalid => 6,
+        Ok(value) => (0, value),
+        Err(refusal) => (u16::from(refusal), 0),
     }
 }
 
-fn value(answer: Answer) -> u64
-    ensures { result ≡ value_of answer }
-{
-    match answer {
-        Answer::Done(value) => value as u64,
-        _ => 0,
-    }
-}
-
-// Number and value.
-pub fn print_answer(out: &impl Print, answer: Answer) {
-    let number = number(answer);
-    let value = value(answer);
+pub fn print_answer(out: &impl Print, answer: Result<u16, Refusal>) {
+    let (number, value) = number_and_value(answer);
     let _ = print!(out; " | {number} {value}");
 }
 
 // Number, length and sum of the part.
 pub fn print_view(out: &impl Print, desk: &[u8]) {
-    let number = number(desk::view_number(desk));
+    let (number, _) = number_and_value(desk::view_number(desk));
     let part = desk::view(desk);
     let length = part.len();
     let sum = sum(0, part);
