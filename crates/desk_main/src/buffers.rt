@@ -35,8 +35,8 @@ fn take_many(desk: &mut [u8], log: &mut [u8], tray: &mut [u8], n: u32) -> Result
 }
 
 impl Buffers {
-    // Zeros, and as much of them lent as the desk asks for.
-    pub fn new() -> Buffers {
+    // As much of them is lent as the desk asks for.
+    pub fn zeros() -> Buffers {
         Buffers {
             desk: [0; 1985],
             log: [0; 48001],

@@ -43,5 +43,5 @@ fn play(out: &impl Print, script: &[u8], buffers: &mut Buffers) {
 fn main(rt: HostRuntime) {
     let mut script = [0u8; 65536];
     let n = input::read_what_comes(&rt, &rt.stderr(), &mut script, b"cannot read the script");
-    play(&rt, &script[..n], &mut Buffers::new());
+    play(&rt, &script[..n], &mut Buffers::zeros());
 }

@@ -1,5 +1,4 @@
--- What the programs that run the edges of Paper 01 print of a buffer in place of its bytes: the number that these are the digits of,
--- modulo a prime. Assumes nothing.
+-- The sum by which the programs that run the edges of Paper 01 tell what a buffer holds. Assumes nothing.
 use Rattle.std.specs.Prelude.{ℕ, ◌+◌, ◌*◌, ◌%◌, List}
 use Rattle.std.specs.List.{fold}
 
