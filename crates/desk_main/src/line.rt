@@ -1,5 +1,8 @@
 // A line of the script read: its first letter says what it asks for, and the fields behind it, each after a space, say with what.
 
+use input::words::split_once;
+use std::slice::Iter;
+
 // How many bytes of each buffer a call is lent.
 #[derive(Clone, Copy)]
 pub struct Lent {
@@ -36,21 +39,19 @@ pub enum Line {
     Call(Call),
 }
 
-// The value of a digit, 0-9 A-F; 0 of any other letter, and where there is none.
-fn digit(letter: Option<&u8>) -> u8 {
+// The value of a digit, 0-9 A-F; 0 of any other letter.
+fn digit(letter: u8) -> u8 {
     match letter {
-        Some(letter @ b'0'..=b'9') => *letter - b'0',
-        Some(letter @ b'A'..=b'F') => *letter - b'A' + 10,
+        b'0'..=b'9' => letter - b'0',
+        b'A'..=b'F' => letter - b'A' + 10,
         _ => 0,
     }
 }
 
-// The decimal number of a field, modulo 2 to the 32; 0 where there is no such field.
+// The decimal number of a field; 0 where there is no such field.
 fn number(line: &[u8], field: usize) -> u32 {
-    let digits = line.split(|b| *b == b' ').nth(field).unwrap_or(&[]);
-    digits.iter().fold(0u32, |n, b| {
-        n.wrapping_mul(10).wrapping_add(u32::from(digit(Some(b))))
-    })
+    let letters = line.split(|b| *b == b' ').nth(field).unwrap_or(&[]);
+    input::words::number(letters, digit)
 }
 
 fn size(line: &[u8], field: usize) -> usize {
@@ -61,16 +62,16 @@ fn byte(line: &[u8], field: usize) -> u8 {
     (number(line, field) % 256) as u8
 }
 
-// The byte that the next two letters say in hexadecimal.
-fn hex_byte(letters: &mut std::slice::Iter<u8>) -> u8 {
-    let high = digit(letters.next());
-    let low = digit(letters.next());
+// The byte that the next two letters say in hexadecimal; one that is missing counts as 0.
+fn hex_byte(letters: &mut Iter<u8>) -> u8 {
+    let high = letters.next().map_or(0, |letter| digit(*letter));
+    let low = letters.next().map_or(0, |letter| digit(*letter));
     (high << 4) | low
 }
 
 // The pair of bytes that stands behind the first space.
 fn take(line: &[u8]) -> Call {
-    let behind = line.splitn(2, |b| *b == b' ').nth(1).unwrap_or(&[]);
+    let behind = split_once(line, b' ').map_or(&line[..0], |(_, behind)| behind);
     let mut letters = behind.iter();
     let first = hex_byte(&mut letters);
     let second = hex_byte(&mut letters);

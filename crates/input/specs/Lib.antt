@@ -1,3 +1,3 @@
 -- The definitions of `input`, in reading order.
-pub mod Cuts
+pub mod Words
 pub mod Sums

@@ -1,8 +1,8 @@
 // The whole of standard input, read after read, for a program that works on it when it is there; and what a program says of a call that fails.
 #![tactic(auto)]
 
-pub mod cuts;
 pub mod sums;
+pub mod words;
 
 ghost use Rattle.std.specs.Prelude.{◌≤◌, length, MatchResult};
 

@@ -1,15 +1,8 @@
 // A reel as its text says it: every byte is the reel's own, but for `<COUNT TEXT>`, which is TEXT so many times.
 ghost use Rattle.std.specs.Prelude.{◌≤◌, length};
 
-use input::cuts::split_once;
+use input::words::{number, split_once};
 use std::io::Write;
-
-// The number that decimal digits say, modulo 65,536; the low four bits of a digit are its value.
-fn number(digits: &[u8]) -> u16 {
-    digits.iter().fold(0u16, |n, digit| {
-        n.wrapping_mul(10).wrapping_add(u16::from(*digit % 16))
-    })
-}
 
 // A piece of a text that ends behind `close`, cut at its first `open`: what stands before it, and the part between the two letters.
 // Where there is no `open`, all stands before it; a part that the text's end cuts off is a part.
@@ -20,12 +13,13 @@ pub fn cut(piece: &[u8], open: u8, close: u8) -> (&[u8], Option<&[u8]>) {
     }
 }
 
-// What a note says: behind its count and a space, its text. Where there is no space, it says nothing.
+// What a note says: behind its count and a space, its text. The low four bits of a digit are its value, and the count is taken modulo
+// 65,536. Where there is no space, it says nothing.
 fn put_note(room: &mut &mut [u8], note: &[u8])
     ensures { length room.new.now ≤ length room.old.now }
 {
     if let Some((count, text)) = split_once(note, b' ') {
-        for _ in 0..number(count) {
+        for _ in 0..number(count, |letter| letter % 16) % 65536 {
             let _ = room.write(text);
         }
     }
