@@ -16,17 +16,19 @@ struct Told {
     last: usize,
 }
 
-// One piece more.
-fn add_piece(before: Told, piece: &[u8]) -> Told
-    ensures { result.last ≤ max before.last (length piece.now) }
-{
-    if piece.is_empty() {
-        return before;
-    }
-    Told {
-        size: before.size.wrapping_add(piece.len() as u64),
-        sum: sum(before.sum, piece),
-        last: piece.len(),
+impl Told {
+    // One piece more.
+    fn add(self, piece: &[u8]) -> Told
+        ensures { result.last ≤ max self.last (length piece.now) }
+    {
+        if piece.is_empty() {
+            return self;
+        }
+        Told {
+            size: self.size.wrapping_add(piece.len() as u64),
+            sum: sum(self.sum, piece),
+            last: piece.len(),
+        }
     }
 }
 
@@ -34,7 +36,7 @@ fn add_piece(before: Told, piece: &[u8]) -> Told
 fn tell(reel: &[u8], cells: &mut [u8; 1920], held: &mut [u8; 960], out: &mut [u8; 65536]) -> Told
     ensures { result.last ≤ 65536 }
 {
-    let mut t = Told {
+    let mut told = Told {
         size: 0,
         sum: 0,
         last: 0,
@@ -43,17 +45,18 @@ fn tell(reel: &[u8], cells: &mut [u8; 1920], held: &mut [u8; 960], out: &mut [u8
     while w.stage < END {
         let p = pieces::next_piece(w, reel, cells, held, out);
         w = p.walk;
-        t = add_piece(t, &out[..p.n]);
+        told = told.add(&out[..p.n]);
     }
-    t
+    told
 }
 
 // A register no longer than a screenful is one piece, and stands in the buffer whole.
-fn print_told(to: &impl Print, size: u64, sum: u32, last: &[u8]) {
-    if size <= SCREENFUL {
+fn print_told(to: &impl Print, told: Told, last: &[u8]) {
+    if told.size <= SCREENFUL {
         print(to, last);
         return;
     }
+    let (size, sum) = (told.size, told.sum);
     let _ = print!(to; "{size} bytes, sum {sum:08x}, last line:\n");
     let lines = last.split_inclusive(|b| *b == b'\n');
     print(to, lines.last().unwrap_or(&[]));
@@ -63,6 +66,6 @@ pub fn print_register(to: &impl Print, reel: &[u8]) {
     let mut cells = [0u8; 1920];
     let mut held = [0u8; 960];
     let mut out = [0u8; 65536];
-    let t = tell(reel, &mut cells, &mut held, &mut out);
-    print_told(to, t.size, t.sum, &out[..t.last]);
+    let told = tell(reel, &mut cells, &mut held, &mut out);
+    print_told(to, told, &out[..told.last]);
 }

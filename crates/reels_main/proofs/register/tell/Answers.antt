@@ -8,9 +8,6 @@ use Rattle.reels_main.proofs.register.tell.Goals as goal
 pub loop-w-init : goal.loop-w-init
 loop-w-init c = (subst Fit (sym c.start-w.ensures) start_fit, search rules)
 
-pub next_piece-p-requires : goal.next_piece-p-requires
-next_piece-p-requires c = c.loop-w.invariant.0
-
 pub loop-w-smaller : goal.loop-w-smaller
 loop-w-smaller c =
     let l = c.loop-w in

@@ -4,7 +4,7 @@ use Rattle.walk.specs.Walk.{place, Fit, steps_of}
 use Rattle.reels_main.proofs.register.tell.Given as goal
 
 abbrev pub invariant-loop-w : goal.invariant-loop-w
-invariant-loop-w l = Fit (place l.w l.cells l.held) × (l.t.last ≤ 65536)
+invariant-loop-w l = Fit (place l.w l.cells l.held) × (l.told.last ≤ 65536)
 
 abbrev pub decreases-loop-w : goal.decreases-loop-w
 decreases-loop-w l = steps_of l.w
