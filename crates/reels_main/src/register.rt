@@ -3,7 +3,6 @@ ghost use Rattle.std.specs.Prelude.{◌≤◌, max, length};
 
 use input::print;
 use input::sums::sum;
-use walk::END;
 
 // The longest register that is printed whole.
 const SCREENFUL: u64 = 2000;
@@ -42,7 +41,7 @@ fn tell(reel: &[u8], cells: &mut [u8; 1920], held: &mut [u8; 960], out: &mut [u8
         last: 0,
     };
     let mut w = walk::start(cells, held);
-    while w.stage < END {
+    while w.stage.is_live() {
         let p = pieces::next_piece(w, reel, cells, held, out);
         w = p.walk;
         told = told.add(&out[..p.n]);
