@@ -30,6 +30,7 @@ pub enum Call {
     Row(u8),
 }
 
+// What a line asks for; of words, nothing.
 #[derive(Clone, Copy)]
 pub enum Line {
     Words,
