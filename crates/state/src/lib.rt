@@ -18,7 +18,7 @@ pub const POP_ON: u8 = 2;
 pub const PAINT_ON: u8 = 3;
 
 // What the codes change: style, Text, the roll-up mark and depth, and for each style a cursor with its pen.
-#[derive(Clone, Copy)]
+#[derive(Clone, Copy, Debug, PartialEq, Eq)]
 pub struct Mode {
     pub style: u8,
     pub text: u8,
@@ -30,7 +30,7 @@ pub struct Mode {
 }
 
 // The whole state: the mode, and what the pair rules keep of the stream.
-#[derive(Clone, Copy)]
+#[derive(Clone, Copy, Debug, PartialEq, Eq)]
 pub struct State {
     pub acts: u16,
     pub selected: u8,
@@ -53,14 +53,13 @@ impl State {
     pub fn fresh(channel: u8) -> State
         ensures { result ≡ fresh_of channel }
     {
-        let mode = Mode::fresh();
         State {
             acts: 0,
             selected: channel,
             stream: 0,
             first: 0,
             second: 0,
-            mode,
+            mode: Mode::fresh(),
         }
     }
 
@@ -69,9 +68,10 @@ impl State {
         requires { self.acts < 65535 }
         ensures { result ≡ selected_of self channel }
     {
-        let mut fresh = State::fresh(channel);
-        fresh.acts = self.acts + 1;
-        fresh
+        State {
+            acts: self.acts + 1,
+            ..State::fresh(channel)
+        }
     }
 }
 
@@ -113,6 +113,7 @@ impl Mode {
     }
 
     // A style is set and Text is off.
+    #[tactic(auto, unfolding(crate::specs::Style::is_ready))]
     pub fn is_ready(self) -> bool
         ensures { result ≡ is_ready self }
     {
@@ -120,6 +121,7 @@ impl Mode {
     }
 
     // The cursor of the style.
+    #[tactic(auto, using(crate::proofs::Laws::cursor_of_placed), unfolding(crate::specs::Style::cursor_of))]
     pub fn cursor(self) -> Cursor
         requires { Ranged self }
         ensures { (result ≡ cursor_of self) × Placed result }
@@ -129,6 +131,7 @@ impl Mode {
     }
 
     // The mode with another cursor for its style.
+    #[tactic(auto, unfolding(crate::specs::Style::with_cursor))]
     pub fn with_cursor(self, cursor: Cursor) -> Mode
         ensures { result ≡ with_cursor self cursor }
     {
@@ -136,13 +139,10 @@ impl Mode {
         let pop = choose(self.style == POP_ON, cursor, self.pop);
         let paint = choose(self.style == PAINT_ON, cursor, self.paint);
         Mode {
-            style: self.style,
-            text: self.text,
-            mark: self.mark,
-            depth: self.depth,
             roll,
             pop,
             paint,
+            ..self
         }
     }
 
