@@ -39,6 +39,7 @@ pub fn text(mode: Mode) -> Mode
     Mode { text: 1, ..mode }
 }
 
+// That EDM and ENM are two functions stays as it is: what they share is `page::empty_all`, and a function with the memory as a parameter would be that call again.
 #[tactic(auto, unfolding(crate::specs::Styles::edm_of))]
 pub fn edm(mode: Mode, cells: &mut [u8]) -> Mode
     requires { Sound (captions mode cells.old) }

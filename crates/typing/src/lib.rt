@@ -1,4 +1,5 @@
 // What is written at the style's cursor.
+// The pair of mode and cells stays as it is: two parameters and not one struct, for the reasons that stand at the head of `acts`.
 #![tactic(auto)]
 
 ghost use Rattle.std.specs.Prelude.{◌≡◌, true, ◌≤◌};
