@@ -1,8 +1,6 @@
 -- `type_text` meets its contract. Assumes nothing.
 use mathlib.Core.Path.{ap, sym, subst, ◌∙◌}
-use native.Mathlib.Omega.{arith}
 use Prim.Native.Nat.{◌+◌}
-use lib.ListN.{length}
 use Rattle.cell.specs.Cursor.{Placed}
 use Rattle.state.specs.State.{desk}
 use Rattle.typing.specs.Typing.{passed_of, put_of}
