@@ -1,4 +1,7 @@
 // What the codes do: the mode by value and the cells lent, and each act one equation with its definition.
+// The pair of mode and cells stays as it is: in one struct, `Captions { mode, cells: &mut [u8] }`, each act says a third thing beside `Sound` and its equation,
+// `self.new.cells.ghost_name ≡ self.old.cells.ghost_name`, or its caller learns nothing of the cells it lent; and `styles::rcl`, `rdc`, `text` and
+// `placing::tabbed`, which take a mode alone, would ask for cells. Nor can the struct itself be `Sound`: `typing::write` takes any code, also one that no cell may hold.
 #![tactic(auto)]
 
 ghost use Rattle.std.specs.Prelude.{◌≡◌};
@@ -15,25 +18,17 @@ use state::Mode;
 pub fn is_gated(code: Code) -> bool
     ensures { result ≡ is_gated code }
 {
-    match code {
-        Code::Preamble(_, _, _) => true,
-        Code::MidRow(_) => true,
-        Code::Special(_) => true,
-        Code::Tab(_) => true,
-        Code::Bs => true,
-        Code::Der => true,
-        Code::Fon => true,
-        Code::Cr => true,
-        Code::Unassigned => false,
-        Code::Rcl => false,
-        Code::Rdc => false,
-        Code::Ru(_) => false,
-        Code::Eoc => false,
-        Code::Tr => false,
-        Code::Rtd => false,
-        Code::Edm => false,
-        Code::Enm => false,
-    }
+    matches!(
+        code,
+        Code::Preamble(_, _, _)
+            | Code::MidRow(_)
+            | Code::Special(_)
+            | Code::Tab(_)
+            | Code::Bs
+            | Code::Der
+            | Code::Fon
+            | Code::Cr
+    )
 }
 
 // What a code does once it may act.
@@ -59,14 +54,14 @@ fn done(mode: Mode, cells: &mut [u8], code: Code) -> Mode
         Code::Rdc => styles::rdc(mode),
         Code::Ru(n) => rollup::ru(mode, cells, n),
         Code::Eoc => styles::eoc(mode, cells),
-        Code::Tr => styles::text(mode),
-        Code::Rtd => styles::text(mode),
+        Code::Tr | Code::Rtd => styles::text(mode),
         Code::Edm => styles::edm(mode, cells),
         Code::Enm => styles::enm(mode, cells),
     }
 }
 
 // What a code does.
+#[tactic(auto, unfolding(crate::specs::Act::act_of, crate::specs::Act::gated))]
 pub fn act(mode: Mode, cells: &mut [u8], code: Code) -> Mode
     requires { Sound (captions mode cells.old) × Proper code }
     ensures { captions result cells.new ≡ act_of (captions mode cells.old) code }

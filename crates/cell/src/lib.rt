@@ -9,15 +9,16 @@ ghost use Rattle.std.specs.Prelude.{◌≡◌, ◌+◌, ◌≤◌};
 ghost use Rattle.cell.specs.Place.{OnScreen, cell_at, row_at};
 
 // Caption rows are 1 to 15.
-#[derive(Clone, Copy)]
+#[derive(Clone, Copy, Debug, PartialEq, Eq)]
 pub struct Row(pub u8);
 
 // Columns are 1 to 32, counted apart from rows: an address takes one of each, in order.
-#[derive(Clone, Copy)]
+#[derive(Clone, Copy, Debug, PartialEq, Eq)]
 pub struct Column(pub u8);
 
-// A pen taken apart; in a cell and in a cursor it is one byte.
-#[derive(Clone, Copy)]
+// A pen taken apart; in a cell and in a cursor it is one byte. A colour stays as it is: a number below 8, and no enum of the seven, since `unpack_of` takes
+// every byte, and `is_pen` is what tells a pen of colour 7 from those allowed.
+#[derive(Clone, Copy, Debug, PartialEq, Eq)]
 pub struct Pen {
     pub colour: u8,
     pub italics: bool,
@@ -25,7 +26,7 @@ pub struct Pen {
     pub flash: bool,
 }
 
-#[derive(Clone, Copy)]
+#[derive(Clone, Copy, Debug, PartialEq, Eq)]
 pub struct Cursor {
     pub row: Row,
     pub column: Column,

@@ -5,53 +5,59 @@ ghost use Rattle.cell.specs.Cursor.{with_pen, after_write_of, back_of, tab_of, p
 use crate::{Column, Cursor};
 
 impl Cursor {
-    pub fn with_pen(mut self, pen: u8) -> Cursor
+    pub fn with_pen(self, pen: u8) -> Cursor
         ensures { result ≡ with_pen self pen }
     {
-        self.pen = pen;
-        self
+        Cursor { pen, ..self }
     }
 
     // The column goes up by one, but not past 32.
-    pub fn after_write(mut self) -> Cursor
+    #[tactic(auto, unfolding(crate::specs::Cursor::after_write_of))]
+    pub fn after_write(self) -> Cursor
         ensures { result ≡ after_write_of self }
     {
-        let next = Column(facts::least(self.column.0, 31) + 1);
-        self.column = next;
-        self
+        Cursor {
+            column: Column(self.column.0.min(31) + 1),
+            ..self
+        }
     }
 
     // At column 1 nothing; else one left.
-    pub fn back(mut self) -> Cursor
+    #[tactic(auto, unfolding(crate::specs::Cursor::back_of))]
+    pub fn back(self) -> Cursor
         ensures { result ≡ back_of self }
     {
-        let column = self.column.0;
-        if column <= 1 {
+        if self.column.0 <= 1 {
             return self;
         }
-        let left = Column(column - 1);
-        self.column = left;
-        self
+        Cursor {
+            column: Column(self.column.0 - 1),
+            ..self
+        }
     }
 
     // Right by `n` columns, stopping at 32.
-    pub fn tab(mut self, n: u8) -> Cursor
+    #[tactic(auto, unfolding(crate::specs::Cursor::tab_of))]
+    pub fn tab(self, n: u8) -> Cursor
         requires { n ≤ 32 }
         ensures { result ≡ tab_of self n }
     {
-        let right = Column(facts::least(self.column.0, 32 - n) + n);
-        self.column = right;
-        self
+        Cursor {
+            column: Column(self.column.0.min(32 - n) + n),
+            ..self
+        }
     }
 }
 
 // The column that a preamble whose second byte is b sets.
+#[tactic(auto, unfolding(crate::specs::Cursor::preamble_column_of))]
 pub fn preamble_column(b: u8) -> Column
     ensures { result ≡ preamble_column_of b }
 {
     let low = b % 32;
     if low < 0x10 {
-        return Column(1);
+        Column(1)
+    } else {
+        Column((low - 0x10) / 2 * 4 + 1)
     }
-    Column((low - 0x10) / 2 * 4 + 1)
 }

@@ -4,6 +4,8 @@ ghost use Rattle.cell.specs.Pen.{pack_of, unpack_of, after_mid_row, of_preamble,
 
 use crate::Pen;
 
+// This pair stays as it is: two functions and no `From`, since `pack` asks for a colour below 8, which no `From` can ask, and each undoes the other by the
+// laws `unpack_of-pack_of` and `pack_of-unpack_of`.
 impl Pen {
     pub fn pack(self) -> u8
         requires { self.colour < 8 }
@@ -35,24 +37,27 @@ pub fn mid_row_pen(byte: u8, b: u8) -> u8
     after_mid_row(Pen::unpack(byte), b).pack()
 }
 
+#[tactic(auto, unfolding(crate::specs::Pen::after_mid_row))]
 fn after_mid_row(pen: Pen, b: u8) -> Pen
     requires { (0x20 ≤ b) × (b ≤ 0x2f) × (pen.colour < 8) }
     ensures { (result ≡ after_mid_row pen b) × (result.colour < 8) }
 {
-    let underline = b % 2 == 1;
+    let steady = Pen {
+        underline: b % 2 == 1,
+        flash: false,
+        ..pen
+    };
     if b < 0x2e {
-        return Pen {
+        Pen {
             colour: (b - 0x20) / 2,
             italics: false,
-            underline,
-            flash: false,
-        };
-    }
-    Pen {
-        colour: pen.colour,
-        italics: true,
-        underline,
-        flash: false,
+            ..steady
+        }
+    } else {
+        Pen {
+            italics: true,
+            ..steady
+        }
     }
 }
 
@@ -63,45 +68,40 @@ pub fn preamble_pen(b: u8) -> u8
     of_preamble(b).pack()
 }
 
+#[tactic(auto, unfolding(crate::specs::Pen::of_preamble))]
 fn of_preamble(b: u8) -> Pen
     ensures { (result ≡ of_preamble b) × (result.colour < 8) }
 {
     let low = b % 32;
-    let underline = b % 2 == 1;
-    if low < 0x0e {
-        return Pen {
-            colour: low / 2,
-            italics: false,
-            underline,
-            flash: false,
-        };
-    }
-    if low < 0x10 {
-        return Pen {
-            colour: 0,
-            italics: true,
-            underline,
-            flash: false,
-        };
-    }
-    Pen {
+    let white = Pen {
         colour: 0,
         italics: false,
-        underline,
+        underline: b % 2 == 1,
         flash: false,
+    };
+    if low < 0x0e {
+        Pen {
+            colour: low / 2,
+            ..white
+        }
+    } else if low < 0x10 {
+        Pen {
+            italics: true,
+            ..white
+        }
+    } else {
+        white
     }
 }
 
 // The pen with flash on.
+#[tactic(auto, unfolding(crate::specs::Pen::flashing))]
 pub fn flash_pen(byte: u8) -> u8
     ensures { result ≡ flash_pen_of byte }
 {
-    let pen = Pen::unpack(byte);
     Pen {
-        colour: pen.colour,
-        italics: pen.italics,
-        underline: pen.underline,
         flash: true,
+        ..Pen::unpack(byte)
     }
     .pack()
 }

@@ -1,9 +1,9 @@
 -- The laws of pairs: every pair's code is proper, both channels have the same codes, and which pairs are assigned. Assumes nothing.
 use mathlib.Core.Path.{◌≡◌, refl, ap}
-use mathlib.Core.Bool.{Bool, true, false, not, ◌&&◌}
+use mathlib.Core.Bool.{Bool, true, not, ◌&&◌}
 use Prim.Native.Nat.{ℕ, ◌+◌, ◌-◌, ◌≤◌}
 use native.Mathlib.Omega.{arith}
-use borrow.Author.Tests.{le-leb, lt-leb, leb-true, eqb-true, not-true}
+use borrow.Author.Tests.{le-leb, lt-leb, leb-true, eqb-true}
 use lib.Dec.{leb, eqb}
 use Rattle.facts.specs.Every.{every}
 use Rattle.facts.proofs.Choice.{pick_cases, and_left, and_right, and_both, or_cases, or_right}
@@ -45,10 +45,6 @@ channel_of-one a h = simp (le-leb a 0x17 h)
 pub channel_of_two : (a : ℕ) → 0x18 ≤ a → channel_of a ≡ 2
 unfolding channel_of
 channel_of_two a h = simp (lt-leb a 0x17 h)
-
-pub channel_of_low : (a : ℕ) → 1 ≤ channel_of a
-unfolding channel_of
-channel_of_low a = pick_cases (λ (n : ℕ). 1 ≤ n) (leb a 0x17) (λ t. omega arith) (λ t. omega arith)
 
 pub channel_of_high : (a : ℕ) → channel_of a ≤ 2
 unfolding channel_of
@@ -94,10 +90,6 @@ is_control_of a b al au bl bu = and_both (and_both (and_both (le-leb 0x10 a al) 
 pub is_assigned_facts : (a b : ℕ) → is_assigned a b ≡ true → (0x10 ≤ a) × (a ≤ 0x1f) × (0x20 ≤ b) × (b ≤ 0x7f)
 unfolding is_assigned
 is_assigned_facts a b e = is_control_facts a b (and_left (is_control a b) (not (is_unassigned (code_of a b))) e)
-
-pub is_assigned_code : (a b : ℕ) → is_assigned a b ≡ true → is_unassigned (code_of a b) ≡ false
-unfolding is_assigned
-is_assigned_code a b e = not-true (is_unassigned (code_of a b)) (and_right (is_control a b) (not (is_unassigned (code_of a b))) e)
 
 -- in the range a pair is assigned exactly where its code is another than `Unassigned`
 pub is_assigned_code_of : (a b : ℕ) → 0x10 ≤ a → a ≤ 0x1f → 0x20 ≤ b → b ≤ 0x7f → is_assigned a b ≡ not (is_unassigned (code_of a b))

@@ -12,7 +12,8 @@ use cell::pens::preamble_pen;
 use cell::{Column, Row};
 use rows::preamble_row;
 
-#[derive(Clone, Copy)]
+// A code stays as it is: `Unassigned` is one among the others, and no `None`, since `code_of`, `Proper` and `is_unassigned` take it as a code.
+#[derive(Clone, Copy, Debug, PartialEq, Eq)]
 pub enum Code {
     Unassigned,
     // The second byte itself, 20h to 2Fh.
@@ -38,17 +39,16 @@ pub enum Code {
     Eoc,
 }
 
-// The channel that a first byte is for.
+// The channel that a first byte is for. It stays as it is: the number 1 or 2, since `channel_of` has it so, and so has `loikrasun_select` for C.
+#[tactic(auto, unfolding(crate::specs::Codes::channel_of))]
 pub fn channel(a: u8) -> u8
     ensures { (result ≡ channel_of a) × (1 ≤ result) × (result ≤ 2) }
 {
-    if a <= 0x17 {
-        return 1;
-    }
-    2
+    if a <= 0x17 { 1 } else { 2 }
 }
 
-// What the pair says.
+// What the pair says. A pair stays as it is: two bytes, since a type of control pairs would be narrower than what `classify` takes.
+#[tactic(auto, unfolding(crate::specs::Codes::code_of))]
 pub fn classify(a: u8, b: u8) -> Code
     requires { (0x10 ≤ a) × (a ≤ 0x1f) × (0x20 ≤ b) × (b ≤ 0x7f) }
     ensures { result ≡ code_of a b }
@@ -57,17 +57,16 @@ pub fn classify(a: u8, b: u8) -> Code
 }
 
 // The first byte as channel 1 has it.
+#[tactic(auto, unfolding(crate::specs::Codes::without_channel_of))]
 fn without_channel(a: u8) -> u8
     requires { (0x10 ≤ a) × (a ≤ 0x1f) }
     ensures { (result ≡ without_channel_of a) × (0x10 ≤ result) × (result ≤ 0x17) }
 {
-    if a <= 0x17 {
-        return a;
-    }
-    a - 8
+    if a <= 0x17 { a } else { a - 8 }
 }
 
 // What the pair says, its first byte as channel 1 has it.
+#[tactic(auto, unfolding(crate::specs::Codes::channel_one_code_of))]
 fn channel_one_code(a: u8, b: u8) -> Code
     requires { (0x10 ≤ a) × (a ≤ 0x17) × (0x20 ≤ b) × (b ≤ 0x7f) }
     ensures { result ≡ channel_one_code_of a b }
@@ -75,16 +74,12 @@ fn channel_one_code(a: u8, b: u8) -> Code
     if 0x40 <= b {
         return preamble_code(a, b);
     }
-    if a == 0x11 {
-        return mid_row_or_special(b);
+    match a {
+        0x11 => mid_row_or_special(b),
+        0x14 => control(b),
+        0x17 => tab_offset(b),
+        _ => Code::Unassigned,
     }
-    if a == 0x17 {
-        return tab_offset(b);
-    }
-    if a == 0x14 {
-        return control(b);
-    }
-    Code::Unassigned
 }
 
 // 11h and b below 40h.
@@ -94,31 +89,33 @@ fn mid_row_or_special(b: u8) -> Code
     ensures { result ≡ mid_row_or_special_of b }
 {
     if b <= 0x2f {
-        return Code::MidRow(b);
+        Code::MidRow(b)
+    } else {
+        Code::Special(b + 0x60)
     }
-    Code::Special(b + 0x60)
 }
 
 // 17h and b below 40h.
+#[tactic(auto, unfolding(crate::specs::Codes::tab_offset_of))]
 fn tab_offset(b: u8) -> Code
     ensures { result ≡ tab_offset_of b }
 {
-    if (0x21 <= b) & (b <= 0x23) {
-        return Code::Tab(b - 0x20);
+    match b {
+        0x21..=0x23 => Code::Tab(b - 0x20),
+        _ => Code::Unassigned,
     }
-    Code::Unassigned
 }
 
 // Any first byte and b from 40h.
+#[tactic(auto, unfolding(crate::specs::Codes::preamble_code_of))]
 fn preamble_code(a: u8, b: u8) -> Code
     requires { (0x10 ≤ a) × (a ≤ 0x17) × (0x40 ≤ b) × (b ≤ 0x7f) }
     ensures { result ≡ preamble_code_of a b }
 {
-    let row = preamble_row(a, b);
-    if row == 0 {
-        return Code::Unassigned;
+    match preamble_row(a, b) {
+        Some(row) => Code::Preamble(row, preamble_column(b), preamble_pen(b)),
+        None => Code::Unassigned,
     }
-    Code::Preamble(Row(row), preamble_column(b), preamble_pen(b))
 }
 
 // 14h and b below 40h. By numbers and not by a table of codes, which would be built anew at each call.
@@ -148,26 +145,21 @@ fn control(b: u8) -> Code
 pub fn is_unassigned(code: Code) -> bool
     ensures { result ≡ is_unassigned code }
 {
-    if let Code::Unassigned = code {
-        true
-    } else {
-        false
-    }
+    matches!(code, Code::Unassigned)
 }
 
 // Whether the pair is assigned, whatever the two bytes are.
+#[tactic(auto, unfolding(crate::specs::Assigned::is_assigned))]
 pub fn is_assigned(a: u8, b: u8) -> bool
     ensures { result ≡ is_assigned a b }
 {
-    if (0x10 <= a) & (a <= 0x1f) & (0x20 <= b) & (b <= 0x7f) {
-        return !is_unassigned(classify(a, b));
-    }
-    false
+    (0x10..=0x1f).contains(&a) && (0x20..=0x7f).contains(&b) && !is_unassigned(classify(a, b))
 }
 
 // Whether the two bytes may stand for the expected pair: none, or one that is assigned.
+#[tactic(auto, unfolding(crate::specs::Assigned::is_expected))]
 pub fn is_expected(a: u8, b: u8) -> bool
     ensures { result ≡ is_expected a b }
 {
-    ((a == 0) & (b == 0)) | is_assigned(a, b)
+    (a == 0 && b == 0) || is_assigned(a, b)
 }

@@ -1,53 +1,61 @@
-// A pair as a line of text.
+// A pair as a line of text, a write for each word: one that fails is passed over, and the next one is tried.
 ghost use Rattle.std.specs.Prelude.{◌≤◌};
 ghost use Rattle.codes.specs.Proper.{Proper};
 
-use cell::Pen;
 use cell::pens::mid_row_pen;
+use cell::{Column, Pen, Row};
 use codes::Code;
 
-// A write that fails is passed over, and the next one is tried.
-pub fn print(out: &impl Print, words: &[u8]) {
-    let _ = out.write_all(words);
+fn colour(colour: u8) -> &'static str {
+    match colour {
+        0 => " white",
+        1 => " green",
+        2 => " blue",
+        3 => " cyan",
+        4 => " red",
+        5 => " yellow",
+        6 => " magenta",
+        _ => " unnamed",
+    }
 }
 
-pub fn print_number(out: &impl Print, n: u64) {
+// A code that carries no number.
+fn name(code: Code) -> &'static str {
+    match code {
+        Code::Rcl => " RCL",
+        Code::Bs => " BS",
+        Code::Der => " DER",
+        Code::Fon => " FON",
+        Code::Rdc => " RDC",
+        Code::Tr => " TR",
+        Code::Rtd => " RTD",
+        Code::Edm => " EDM",
+        Code::Cr => " CR",
+        Code::Enm => " ENM",
+        Code::Eoc => " EOC",
+        _ => " ---",
+    }
+}
+
+pub fn print(out: &impl Print, word: &str) {
+    let _ = print!(out; "{word}");
+}
+
+fn print_counted(out: &impl Print, word: &str, n: u8) {
+    print(out, word);
     let _ = print!(out; "{n}");
 }
 
-fn print_hex(out: &impl Print, byte: u8) {
-    let both = [wire::hex(byte / 16), wire::hex(byte % 16)];
-    print(out, &both);
-}
-
-fn print_counted(out: &impl Print, words: &[u8], n: u8) {
-    print(out, words);
-    print_number(out, n as u64);
-}
-
-fn print_colour(out: &impl Print, colour: u8) {
-    match colour {
-        0 => print(out, b" white"),
-        1 => print(out, b" green"),
-        2 => print(out, b" blue"),
-        3 => print(out, b" cyan"),
-        4 => print(out, b" red"),
-        5 => print(out, b" yellow"),
-        6 => print(out, b" magenta"),
-        _ => print(out, b" unnamed"),
-    }
-}
-
 // `plain` is a pen with neither italics nor underline.
-fn print_looks(out: &impl Print, italics: bool, underline: bool) {
-    if italics {
-        print(out, b" italics");
+fn print_looks(out: &impl Print, pen: Pen) {
+    if pen.italics {
+        print(out, " italics");
     }
-    if underline {
-        print(out, b" underline");
+    if pen.underline {
+        print(out, " underline");
     }
-    if !italics & !underline {
-        print(out, b" plain");
+    if !pen.italics && !pen.underline {
+        print(out, " plain");
     }
 }
 
@@ -56,42 +64,23 @@ fn print_mid_row(out: &impl Print, b: u8)
     requires { (0x20 ≤ b) × (b ≤ 0x2f) }
 {
     let pen = Pen::unpack(mid_row_pen(0, b));
-    print(out, b" mid-row");
+    print(out, " mid-row");
     if !pen.italics {
-        print_colour(out, pen.colour);
+        print(out, colour(pen.colour));
     }
-    print_looks(out, pen.italics, pen.underline);
+    print_looks(out, pen);
 }
 
-fn print_preamble(out: &impl Print, row: u8, column: u8, byte: u8) {
-    let pen = Pen::unpack(byte);
-    print_counted(out, b" preamble row ", row);
-    print_counted(out, b" column ", column);
-    print_colour(out, pen.colour);
-    print_looks(out, pen.italics, pen.underline);
+fn print_preamble(out: &impl Print, row: Row, column: Column, pen: Pen) {
+    print_counted(out, " preamble row ", row.0);
+    print_counted(out, " column ", column.0);
+    print(out, colour(pen.colour));
+    print_looks(out, pen);
 }
 
 fn print_special(out: &impl Print, code: u8) {
-    print(out, b" special ");
-    print_hex(out, code);
-}
-
-// A code that carries no number.
-fn print_name(out: &impl Print, code: Code) {
-    match code {
-        Code::Rcl => print(out, b" RCL"),
-        Code::Bs => print(out, b" BS"),
-        Code::Der => print(out, b" DER"),
-        Code::Fon => print(out, b" FON"),
-        Code::Rdc => print(out, b" RDC"),
-        Code::Tr => print(out, b" TR"),
-        Code::Rtd => print(out, b" RTD"),
-        Code::Edm => print(out, b" EDM"),
-        Code::Cr => print(out, b" CR"),
-        Code::Enm => print(out, b" ENM"),
-        Code::Eoc => print(out, b" EOC"),
-        _ => print(out, b" ---"),
-    }
+    print(out, " special ");
+    let _ = print!(out; "{code:02X}");
 }
 
 fn print_code(out: &impl Print, code: Code)
@@ -100,19 +89,20 @@ fn print_code(out: &impl Print, code: Code)
     match code {
         Code::MidRow(b) => print_mid_row(out, b),
         Code::Special(code) => print_special(out, code),
-        Code::Tab(n) => print_counted(out, b" tab ", n),
-        Code::Preamble(row, column, pen) => print_preamble(out, row.0, column.0, pen),
-        Code::Ru(n) => print_counted(out, b" roll-up ", n),
-        _ => print_name(out, code),
+        Code::Tab(n) => print_counted(out, " tab ", n),
+        Code::Preamble(row, column, pen) => print_preamble(out, row, column, Pen::unpack(pen)),
+        Code::Ru(n) => print_counted(out, " roll-up ", n),
+        _ => print(out, name(code)),
     }
 }
 
+#[tactic(auto, using(codes::proofs::Laws::code_of_proper))]
 pub fn print_line(out: &impl Print, a: u8, b: u8)
     requires { (0x10 ≤ a) × (a ≤ 0x1f) × (0x20 ≤ b) × (b ≤ 0x7f) }
 {
-    print_hex(out, a);
-    print_hex(out, b);
-    print_counted(out, b" channel ", codes::channel(a));
+    let _ = print!(out; "{a:02X}");
+    let _ = print!(out; "{b:02X}");
+    print_counted(out, " channel ", codes::channel(a));
     print_code(out, codes::classify(a, b));
-    print(out, b"\n");
+    print(out, "\n");
 }

@@ -1,10 +1,11 @@
 -- Two codes through one gate; every pair and every selection keeps a sound desk sound, whatever it was, and counts one. Assumes nothing.
+use Rattle.std.specs.Prelude.{Option, Some, None}
 use mathlib.Core.Path.{◌≡◌, refl, ap, sym, ◌∙◌}
 use mathlib.Core.Bool.{Bool, true, false, not, ◌&&◌, ◌||◌}
 use Prim.Native.Nat.{ℕ, ◌+◌, ◌<◌, ◌≤◌}
 use native.Mathlib.Omega.{arith}
 use lib.Dec.{eqb, ltb}
-use borrow.Author.Tests.{ltb-true, ltb-false, le-leb, ne_eqb}
+use borrow.Author.Tests.{ltb-true, ltb-false, le-leb}
 use Rattle.facts.specs.Choice.{pick}
 use Rattle.facts.proofs.Choice.{pick_cases, and_right, and_both, or_left, or_right, or_none_left, or_none_right}
 use Rattle.wire.specs.Byte.{is_good, low_seven}
@@ -38,53 +39,42 @@ is_open_live s t = is_ready_live s.mode (and_right (eqb s.stream s.selected) (is
 
 -- A byte as text is its code typed.
 
-type_any_of_some : (d : Desk) (code : ℕ) → 1 ≤ code → type_any_of d code ≡ type_of d code
-unfolding type_any_of
-type_any_of_some d code low =
-    let some : code ≡ 0 → ⊥ = λ e. omega arith in
-    rw (ne_eqb code 0 some)
-
 type_any_of_text : (d : Desk) (y : ℕ) → type_any_of d (text_code_of y) ≡ as_text_of d y
-unfolding type_any_of text_code_of as_text_of
-type_any_of_text d y = go (is_good y) (ltb (low_seven y) 0x20) refl
+unfolding text_code_of as_text_of
+type_any_of_text d y = go (is_good y) (ltb (low_seven y) 0x20)
   where
-    go : (g l : Bool) → ltb (low_seven y) 0x20 ≡ l → type_any_of d (pick g (pick l 0 (low_seven y)) 0x7f) ≡ pick g (pick l d (type_of d (low_seven y))) (type_of d 0x7f)
-    go true true t = refl
-    go true false t =
-        let low = ltb-false (low_seven y) 0x20 t in
-        type_any_of_some d (low_seven y) (omega arith)
-    go false l t = refl
+    go : (g l : Bool) → type_any_of d (pick g (pick l None (Some (low_seven y))) (Some 0x7f)) ≡ pick g (pick l d (type_of d (low_seven y))) (type_of d 0x7f)
+    go true true = refl
+    go true false = refl
+    go false l = refl
 
 -- rule 2: no code, then a byte as text
-pub none_then_text : (d : Desk) (y : ℕ) → type_any_of (type_any_of d 0) (text_code_of y) ≡ as_text_of d y
-unfolding type_any_of
+pub none_then_text : (d : Desk) (y : ℕ) → type_any_of (type_any_of d None) (text_code_of y) ≡ as_text_of d y
 none_then_text d y = type_any_of_text d y
 
 -- rules 1 and 4: a code, then a byte as text
-pub code_then_text : (d : Desk) (code y : ℕ) → 1 ≤ code → type_any_of (type_any_of d code) (text_code_of y) ≡ as_text_of (type_of d code) y
-code_then_text d code y low = type_any_of_text (type_any_of d code) y ∙ ap (λ (e : Desk). as_text_of e y) (type_any_of_some d code low)
+pub code_then_text : (d : Desk) (code y : ℕ) → type_any_of (type_any_of d (Some code)) (text_code_of y) ≡ as_text_of (type_of d code) y
+code_then_text d code y = type_any_of_text (type_of d code) y
 
 -- The gate for two codes is asked once: writing leaves it as it was.
 
-type_any_of_open : (d : Desk) (code : ℕ) → is_open d.state ≡ true → type_any_of d code ≡ with_captions d (write_any_of (captions_of d) code)
-unfolding type_any_of type_of write_any_of
-type_any_of_open d code t = go (eqb code 0)
-  where
-    go : (n : Bool) → pick n d (type_of d code) ≡ with_captions d (pick n (captions_of d) (write_of (captions_of d) code))
-    go true = refl
-    go false = rw t
+type_any_of_open : (d : Desk) (code : Option ℕ) → is_open d.state ≡ true → type_any_of d code ≡ with_captions d (write_any_of (captions_of d) code)
+unfolding type_of
+type_any_of_open d None t = refl
+type_any_of_open d (Some code) t = rw t
 
-type_any_of_shut : (d : Desk) (code : ℕ) → is_open d.state ≡ false → type_any_of d code ≡ d
-unfolding type_any_of type_of
-type_any_of_shut d code t = pick_cases (λ (e : Desk). e ≡ d) (eqb code 0) (λ n. refl) (λ n. rw t)
+type_any_of_shut : (d : Desk) (code : Option ℕ) → is_open d.state ≡ false → type_any_of d code ≡ d
+unfolding type_of
+type_any_of_shut d None t = refl
+type_any_of_shut d (Some code) t = rw t
 
-pub open_both : (d : Desk) (first second : ℕ) → is_open d.state ≡ true → with_captions d (write_any_of (write_any_of (captions_of d) first) second) ≡ type_any_of (type_any_of d first) second
+pub open_both : (d : Desk) (first second : Option ℕ) → is_open d.state ≡ true → with_captions d (write_any_of (write_any_of (captions_of d) first) second) ≡ type_any_of (type_any_of d first) second
 open_both d first second t =
     let e = with_captions d (write_any_of (captions_of d) first) in
     let still = ap (λ (r : Bool). eqb d.state.stream d.state.selected && r) (is_ready-write_any_of (captions_of d) first) in
     sym (ap (λ (x : Desk). type_any_of x second) (type_any_of_open d first t) ∙ type_any_of_open e second (still ∙ t))
 
-pub shut_both : (d : Desk) (first second : ℕ) → is_open d.state ≡ false → d ≡ type_any_of (type_any_of d first) second
+pub shut_both : (d : Desk) (first second : Option ℕ) → is_open d.state ≡ false → d ≡ type_any_of (type_any_of d first) second
 shut_both d first second t = sym (ap (λ (x : Desk). type_any_of x second) (type_any_of_shut d first t) ∙ type_any_of_shut d second t)
 
 -- what is known of a control pair that is not passed over

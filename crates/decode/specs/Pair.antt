@@ -1,7 +1,7 @@
 -- The pair rules, in the paper's order: what two raw bytes do to a desk.
 -- Paper 01, "Pair rules, in this order"; 47 CFR 15.119 (i)(1) to (4) and (j).
 -- Assumes nothing.
-use Rattle.std.specs.Prelude.{ℕ, Bool, not, ◌&&◌, ◌||◌, eqb, leb, ltb}
+use Rattle.std.specs.Prelude.{ℕ, Bool, not, ◌&&◌, ◌||◌, eqb, leb, ltb, Option, Some, None}
 use Rattle.facts.specs.Choice.{pick}
 use Rattle.wire.specs.Byte.{is_good, low_seven}
 use Rattle.codes.specs.Codes.{code_of, channel_of}
@@ -43,13 +43,14 @@ type_of d code = pick (is_open d.state) (with_captions d (write_of (captions_of 
 unfoldable pub as_text_of : Desk → ℕ → Desk
 as_text_of d y = pick (is_good y) (pick (ltb (low_seven y) 0x20) d (type_of d (low_seven y))) (type_of d 0x7f)
 
--- the code that a byte writes as text, 0 where it does nothing
-unfoldable pub text_code_of : ℕ → ℕ
-text_code_of y = pick (is_good y) (pick (ltb (low_seven y) 0x20) 0 (low_seven y)) 0x7f
+-- the code that a byte writes as text, none where it does nothing
+unfoldable pub text_code_of : ℕ → Option ℕ
+text_code_of y = pick (is_good y) (pick (ltb (low_seven y) 0x20) None (Some (low_seven y))) (Some 0x7f)
 
--- a code typed if there is any; 0 is none
-unfoldable pub type_any_of : Desk → ℕ → Desk
-type_any_of d code = pick (eqb code 0) d (type_of d code)
+-- a code typed if there is any
+abbrev pub type_any_of : Desk → Option ℕ → Desk
+type_any_of d None = d
+type_any_of d (Some code) = type_of d code
 
 -- "if a pair is expected and the second byte is good with b equal to its second value"
 abbrev pub is_damaged_repeat : State → ℕ → Bool

@@ -13,41 +13,43 @@ use codes::Code;
 use state::State;
 
 // No pair is expected any more.
-fn cleared(mut state: State) -> State
+fn cleared(state: State) -> State
     ensures { result ≡ told state state.stream 0 0 }
 {
-    state.first = 0;
-    state.second = 0;
-    state
+    State {
+        first: 0,
+        second: 0,
+        ..state
+    }
 }
 
-// The code that a byte writes as text, 0 where it writes none.
-pub fn text_code(y: u8) -> u8
+// The code that a byte writes as text, if it writes any.
+#[tactic(auto, unfolding(crate::specs::Pair::text_code_of))]
+pub fn text_code(y: u8) -> Option<u8>
     ensures { result ≡ text_code_of y }
 {
+    if !wire::is_good(y) {
+        return Some(0x7f);
+    }
     let b = wire::low_seven(y);
-    let own = facts::choose(b < 0x20, 0, b);
-    facts::choose(wire::is_good(y), own, 0x7f)
+    if b < 0x20 { None } else { Some(b) }
 }
 
 // The one gate for writing: the stream's channel is the selected one, a style is set, and Text is off.
 pub fn is_open(state: State) -> bool
     ensures { result ≡ is_open state }
 {
-    let mode = state.mode;
-    (state.stream == state.selected) & mode.is_ready()
+    (state.stream == state.selected) & state.mode.is_ready()
 }
 
-// Two codes one after the other, code 0 none. The gate is asked once for both.
-fn type_both(mut state: State, cells: &mut [u8], first: u8, second: u8) -> State
+// Two codes one after the other, as far as there are any. The gate is asked once for both.
+fn type_both(state: State, cells: &mut [u8], first: Option<u8>, second: Option<u8>) -> State
     requires { Sound (captions state.mode cells.old) }
     ensures { desk result cells.new ≡ type_any_of (type_any_of (desk state cells.old) first) second }
 {
     if is_open(state) {
-        let mode = state.mode;
-        let next = typing::write_two(mode, cells, first, second);
-        state.mode = next;
-        return state;
+        let mode = typing::write_two(state.mode, cells, first, second);
+        return State { mode, ..state };
     }
     state
 }
@@ -60,21 +62,22 @@ fn is_damaged_repeat(state: State, y: u8) -> bool
 }
 
 // An assigned pair: the stream's channel, the expected pair, and the act if the channel is the selected one.
-fn control(mut state: State, cells: &mut [u8], a: u8, b: u8, code: Code) -> State
+fn control(state: State, cells: &mut [u8], a: u8, b: u8, code: Code) -> State
     requires { Sound (captions state.mode cells.old) × (0x10 ≤ a) × (a ≤ 0x1f) × (0x20 ≤ b) × (b ≤ 0x7f) × (code ≡ code_of a b) }
     ensures { desk result cells.new ≡ control_of (desk state cells.old) a b }
 {
     let channel = codes::channel(a);
-    state.stream = channel;
-    state.first = a;
-    state.second = b;
+    let told = State {
+        stream: channel,
+        first: a,
+        second: b,
+        ..state
+    };
     if channel == state.selected {
-        let mode = state.mode;
-        let next = acts::act(mode, cells, code);
-        state.mode = next;
-        return state;
+        let mode = acts::act(state.mode, cells, code);
+        return State { mode, ..told };
     }
-    state
+    told
 }
 
 // Rule 3: a control pair.
@@ -104,17 +107,17 @@ pub fn pair(state: State, cells: &mut [u8], x: u8, y: u8) -> State
     let open = cleared(state);
     if wire::is_good(x) {
         if a < 0x10 {
-            return type_both(open, cells, 0, text_code(y));
+            return type_both(open, cells, None, text_code(y));
         }
         if a < 0x20 {
             return rule_three(state, cells, a, y);
         }
-        return type_both(open, cells, a, text_code(y));
+        return type_both(open, cells, Some(a), text_code(y));
     }
     if is_damaged_repeat(state, y) {
         return open;
     }
-    type_both(open, cells, 0x7f, text_code(y))
+    type_both(open, cells, Some(0x7f), text_code(y))
 }
 
 // A pair as an act: it counts.
@@ -122,9 +125,10 @@ pub fn take(state: State, cells: &mut [u8], x: u8, y: u8) -> State
     requires { Sound (captions state.mode cells.old) × (state.acts < 65535) }
     ensures { desk result cells.new ≡ taken_of (desk state cells.old) x y }
 {
-    let mut next = pair(state, cells, x, y);
-    next.acts = state.acts + 1;
-    next
+    State {
+        acts: state.acts + 1,
+        ..pair(state, cells, x, y)
+    }
 }
 
 // The selection of a channel as an act.

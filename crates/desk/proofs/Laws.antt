@@ -1,47 +1,54 @@
 -- From an act on the three buffers to the call that gave it, and the calls that only look. Assumes nothing.
-use mathlib.Core.Path.{◌≡◌, refl, ap, sym, subst, ◌∙◌}
-use mathlib.Core.Bool.{Bool, true, false}
+use mathlib.Core.Path.{◌≡◌, refl, ap, sym, ◌∙◌}
+use mathlib.Core.Bool.{Bool, true, false, ◌&&◌}
 use mathlib.Core.List.{List, [], ◌∷◌}
-use Prim.Native.Nat.{ℕ, ◌-◌, ◌*◌, ◌<◌, ◌≤◌}
-use lib.ListN.{length}
+use Prim.Native.Nat.{ℕ, ◌-◌, ◌*◌, ◌<◌}
 use borrow.Author.Tests.{lt-ltb}
 use lib.Dec.{eqb, leb, ltb}
 use Rattle.facts.specs.Choice.{pick}
 use Rattle.facts.specs.Over.{over}
-use Rattle.state.specs.declared.State.{State}
 use Rattle.decode.specs.Step.{taken_of}
-use Rattle.record.specs.Layout.{state_of, read_of, record_of}
+use Rattle.record.specs.Layout.{read_of, record_of}
 use Rattle.valid.specs.Valid.{is_valid}
-use Rattle.valid.proofs.Laws.{is_valid_sound}
-use Rattle.standing.specs.Acts.{Act, is_allowed, entry_of, act_of}
+use Rattle.standing.specs.Acts.{Act, pair, select, is_channel, is_allowed, kind_of, first_of, second_of, entry_of, act_of, is_formed}
 use Rattle.standing.specs.Calls.{Buffers, three, Given, Outcome, done, need, is_fit, keep_of, open_of, give_of, take_of, acted_of, is_replayable, stepped_of, back_of}
-use Rattle.standing.proofs.Ways.{Sized, is_sized_sizes, give_done}
-use Rattle.replay.specs.Captions.{step_of, count_of, caption_decoder}
+use Rattle.standing.proofs.Ways.{give_done}
+use Rattle.replay.specs.Captions.{count_of, caption_decoder}
 use Rattle.tray.specs.Given.{Given as Acted}
-use Rattle.desk.specs.declared.Answer.{Answer}
-use Rattle.desk.specs.declared.Answer.TheVariants.{Done, WrongLength, NoSuch, Full, TooFar, Invalid}
+use Rattle.std.specs.Prelude.{Result, Ok, Err}
+use Rattle.desk.specs.declared.Refusal.{Refusal}
+use Rattle.desk.specs.declared.Refusal.TheVariants.{WrongLength, NoSuch, Full, TooFar, Invalid}
 use Rattle.desk.specs.Numbers.{given}
 
--- buffers that fit have the three lengths
-pub lent_sized : (d l t : List ℕ) → is_fit caption_decoder (three d l t) ≡ true → Sized caption_decoder (length d) (length l) (length t)
-lent_sized d l t fit = is_sized_sizes caption_decoder (length d) (length l) (length t) fit
+and_true : (b : Bool) → (b && true) ≡ b
+and_true true = refl
+and_true false = refl
 
--- no more acts stand than can
-pub acts_high : (d : List ℕ) {s : State} → is_valid d ≡ true → s ≡ state_of d → s.acts ≤ 16000
-acts_high d valid read = subst (λ (s : State). s.acts ≤ 16000) (sym read) (is_valid_sound d valid).acts
+is_formed_own : (a : Act) → is_formed (kind_of a) (first_of a) (second_of a) ≡ is_allowed a
+unfolding is_formed
+is_formed_own (pair x y) = refl
+is_formed_own (select c) = and_true (is_channel c)
 
-module _ (d l t : List ℕ) (fit : is_fit caption_decoder (three d l t) ≡ true) (valid : is_valid d ≡ true) (s : State) (read : s ≡ state_of d) (room : s.acts < 16000)
-    (kind first second : ℕ) (a : Act) (is : a ≡ act_of kind first second) (entry : entry_of a ≡ kind ∷ first ∷ second ∷ []) (allowed : is_allowed a ≡ true)
-  where
-    abbrev found : s.acts ≡ count_of (read_of d)
-    found = ap (λ (x : State). x.acts) read
+is_formed_entry : (kind first second : ℕ) (a : Act) → entry_of a ≡ kind ∷ first ∷ second ∷ [] → is_formed kind first second ≡ is_allowed a
+is_formed_entry kind first second a e =
+    let k : kind ≡ kind_of a = cc in
+    let f : first ≡ first_of a = cc in
+    let s : second ≡ second_of a = cc in
+    rw (k, f, s) (is_formed_own a)
 
-    -- an act that was given is what the paper says of the call
-    pub given_call : (r : ℕ) (d₁ l₁ t₁ : List ℕ) → Acted d l t kind first second r d₁ l₁ t₁ → done r (three d₁ l₁ t₁) ≡ give_of caption_decoder (three d l t) a
-    given_call r d₁ l₁ t₁ g =
-        give_done caption_decoder (three d l t) fit valid s.acts found a allowed room
-        (g.counted ∙ ap (λ (x : Act). count_of (step_of (read_of d) x)) (sym is)) (g.decoded ∙ ap (λ (x : Act). record_of (step_of (read_of d) x)) (sym is))
-        (g.logged ∙ (λ i. over l (sym found i * 3) (sym entry i))) (g.kept ∙ (λ i. keep_of caption_decoder t (sym g.counted i) (sym g.decoded i)))
+-- the three bytes of an act are well formed where the act is not refused, and only there
+pub allowed_of_formed : (kind first second : ℕ) → entry_of (act_of kind first second) ≡ kind ∷ first ∷ second ∷ [] → {ok : Bool} → ok ≡ is_formed kind first second
+    → is_allowed (act_of kind first second) ≡ ok
+allowed_of_formed kind first second e same = sym (is_formed_entry kind first second (act_of kind first second) e) ∙ sym same
+
+-- an act that was given by its three bytes is what the paper says of the call
+pub given_call : (d l t : List ℕ) (kind first second : ℕ) → entry_of (act_of kind first second) ≡ kind ∷ first ∷ second ∷ []
+    → is_fit caption_decoder (three d l t) ≡ true → is_valid d ≡ true → count_of (read_of d) < 16000 → is_allowed (act_of kind first second) ≡ true
+    → (r : ℕ) (d₁ l₁ t₁ : List ℕ) → Acted d l t kind first second r d₁ l₁ t₁ → done r (three d₁ l₁ t₁) ≡ give_of caption_decoder (three d l t) (act_of kind first second)
+given_call d l t kind first second entry fit valid room allowed r d₁ l₁ t₁ g =
+    give_done caption_decoder (three d l t) fit valid (count_of (read_of d)) refl (act_of kind first second) allowed room g.counted g.decoded
+    (g.logged ∙ (λ i. over l (count_of (read_of d) * 3) (sym entry i)))
+    (g.kept ∙ (λ i. keep_of caption_decoder t (sym g.counted i) (sym g.decoded i)))
 
 -- When each call is refused, by the tests in the paper's order.
 
@@ -86,20 +93,20 @@ module _ (w : Buffers) where
 
 -- No second answer fits: the number and the value say which answer it was.
 
-answer_of : Given → Answer
+answer_of : Given → Result ℕ Refusal
 answer_of g =
-    pick (eqb g.number 0) (Done g.value)
-    (pick (eqb g.number 1) WrongLength
-    (pick (eqb g.number 2) NoSuch (pick (eqb g.number 3) Full (pick (eqb g.number 4) TooFar Invalid))))
+    pick (eqb g.number 0) (Ok g.value)
+    (pick (eqb g.number 1) (Err WrongLength)
+    (pick (eqb g.number 2) (Err NoSuch) (pick (eqb g.number 3) (Err Full) (pick (eqb g.number 4) (Err TooFar) (Err Invalid)))))
 
-answer_of_given : (r : Answer) → answer_of (given r) ≡ r
+answer_of_given : (r : Result ℕ Refusal) → answer_of (given r) ≡ r
 unfolding answer_of
-answer_of_given (Done value) = refl
-answer_of_given WrongLength = refl
-answer_of_given NoSuch = refl
-answer_of_given Full = refl
-answer_of_given TooFar = refl
-answer_of_given Invalid = refl
+answer_of_given (Ok value) = refl
+answer_of_given (Err WrongLength) = refl
+answer_of_given (Err NoSuch) = refl
+answer_of_given (Err Full) = refl
+answer_of_given (Err TooFar) = refl
+answer_of_given (Err Invalid) = refl
 
-pub same_answer : (r q : Answer) → given r ≡ given q → r ≡ q
+pub same_answer : (r q : Result ℕ Refusal) → given r ≡ given q → r ≡ q
 same_answer r q e = sym (answer_of_given r) ∙ ap answer_of e ∙ answer_of_given q

@@ -4,19 +4,20 @@ use mathlib.Core.List.{List}
 use Prim.Native.Nat.{ℕ}
 use Rattle.standing.specs.Calls.{Outcome, outcome, open_of, take_of, select_of, back_of}
 use Rattle.replay.specs.Captions.{caption_decoder}
-use Rattle.desk.specs.declared.Answer.{Answer}
+use Rattle.std.specs.Prelude.{Result}
+use Rattle.desk.specs.declared.Refusal.{Refusal}
 use Rattle.desk.specs.Numbers.{given}
 use Rattle.desk.specs.Looks.{row_of, view_of, view_number_of}
 use Rattle.desk.proofs.Laws.{same_answer}
 
 -- two ends of a call that is lent desk, log and tray
-pub record Same (r q : Answer) (d l t d₁ l₁ t₁ : List ℕ) : Type 0 where
+pub record Same (r q : Result ℕ Refusal) (d l t d₁ l₁ t₁ : List ℕ) : Type 0 where
   pub answer : r ≡ q
   pub desk : d ≡ d₁
   pub log : l ≡ l₁
   pub tray : t ≡ t₁
 
-module _ (r q : Answer) (d l t d₁ l₁ t₁ : List ℕ) where
+module _ (r q : Result ℕ Refusal) (d l t d₁ l₁ t₁ : List ℕ) where
   only : (o : Outcome) → outcome (given r) d l t ≡ o → outcome (given q) d₁ l₁ t₁ ≡ o → Same r q d l t d₁ l₁ t₁
   only o e f =
       let same : outcome (given r) d l t ≡ outcome (given q) d₁ l₁ t₁ = e ∙ sym f in

@@ -1,89 +1,111 @@
-// A line of the script taken apart: a word, and the fields behind it with a space before each.
-ghost use Rattle.std.specs.Prelude.{◌≤◌, ◌<◌, length};
+// A line of the script read: its first letter says what it asks for, and the fields behind it, each after a space, say with what.
 
-// Where a letter stands next, or the end where it does not.
-pub fn find(text: &[u8], from: usize, letter: u8) -> usize
-    requires { from ≤ length text.now }
-    ensures { (from ≤ result) × (result ≤ length text.now) }
-{
-    let mut i = from;
-    while i < text.len() {
-        if text[i] == letter {
-            return i;
-        }
-        i += 1;
-    }
-    i
+use input::words::split_once;
+use std::slice::Iter;
+
+// How many bytes of each buffer a call is lent.
+#[derive(Clone, Copy)]
+pub struct Lent {
+    pub desk: usize,
+    pub log: usize,
+    pub tray: usize,
 }
 
-// Where the next field starts, or the end where there is none.
-pub fn next_field(line: &[u8], from: usize) -> usize
-    requires { from ≤ length line.now }
-    ensures { result ≤ length line.now }
-{
-    let space = find(line, from, b' ');
-    if space < line.len() {
-        return space + 1;
-    }
-    space
+// A buffer, by its name.
+#[derive(Clone, Copy)]
+pub enum Buffer {
+    Desk,
+    Log,
+    Tray,
 }
 
-// The letter at a place, or 0 behind the end.
-pub fn letter(line: &[u8], at: usize) -> u8 {
-    if at < line.len() {
-        return line[at];
-    }
-    0
+// A call that answers with a number and a value.
+#[derive(Clone, Copy)]
+pub enum Call {
+    Open,
+    Take(u8, u8),
+    Select(u8),
+    Back(u32),
+    Many(u32),
+    Row(u8),
+}
+
+// What a line asks for; of words, nothing.
+#[derive(Clone, Copy)]
+pub enum Line {
+    Words,
+    Lend(Lent),
+    Poke(Buffer, usize, u8),
+    View,
+    Call(Call),
 }
 
 // The value of a digit, 0-9 A-F; 0 of any other letter.
-fn digit(letter: u8) -> u8
-    ensures { result < 16 }
-{
-    if letter < b'0' {
-        return 0;
+fn digit(letter: u8) -> u8 {
+    match letter {
+        b'0'..=b'9' => letter - b'0',
+        b'A'..=b'F' => letter - b'A' + 10,
+        _ => 0,
     }
-    if letter <= b'9' {
-        return letter - b'0';
-    }
-    if letter < b'A' {
-        return 0;
-    }
-    if letter <= b'F' {
-        return letter - b'A' + 10;
-    }
-    0
 }
 
-// A number with one more decimal digit.
-fn grow(n: u64, letter: u8) -> u64
-    requires { n < 4294967296 }
-    ensures { result < 4294967296 }
-{
-    (n * 10 + digit(letter) as u64) % 4294967296
+// The decimal number of a field; 0 where there is no such field.
+fn number(line: &[u8], field: usize) -> u32 {
+    let letters = line.split(|b| *b == b' ').nth(field).unwrap_or(&[]);
+    input::words::number(letters, digit)
 }
 
-// The decimal number of the field at a place.
-pub fn number(line: &[u8], at: usize) -> u32
-    requires { at ≤ length line.now }
-{
-    let end = find(line, at, b' ');
-    let mut n: u64 = 0;
-    let mut i = at;
-    while i < end {
-        n = grow(n, line[i]);
-        i += 1;
+fn size(line: &[u8], field: usize) -> usize {
+    number(line, field) as usize
+}
+
+fn byte(line: &[u8], field: usize) -> u8 {
+    (number(line, field) % 256) as u8
+}
+
+// The byte that the next two letters say in hexadecimal; one that is missing counts as 0.
+fn hex_byte(letters: &mut Iter<u8>) -> u8 {
+    let high = letters.next().map_or(0, |letter| digit(*letter));
+    let low = letters.next().map_or(0, |letter| digit(*letter));
+    (high << 4) | low
+}
+
+// The pair of bytes that stands behind the first space.
+fn take(line: &[u8]) -> Call {
+    let behind = split_once(line, b' ').map_or(&line[..0], |(_, behind)| behind);
+    let mut letters = behind.iter();
+    let first = hex_byte(&mut letters);
+    let second = hex_byte(&mut letters);
+    Call::Take(first, second)
+}
+
+fn lend(line: &[u8]) -> Lent {
+    Lent {
+        desk: size(line, 1),
+        log: size(line, 2),
+        tray: size(line, 3),
     }
-    n as u32
 }
 
-pub fn byte(line: &[u8], at: usize) -> u8
-    requires { at ≤ length line.now }
-{
-    (number(line, at) % 256) as u8
+fn named_buffer(line: &[u8]) -> Buffer {
+    match line.split(|b| *b == b' ').nth(1) {
+        Some([b'd', ..]) => Buffer::Desk,
+        Some([b'l', ..]) => Buffer::Log,
+        _ => Buffer::Tray,
+    }
 }
 
-// The byte that two hexadecimal digits say.
-pub fn hex_byte(high: u8, low: u8) -> u8 {
-    digit(high) * 16 + digit(low)
+pub fn read(line: &[u8]) -> Line {
+    match line.first() {
+        Some(b'#') => Line::Words,
+        Some(b'l') => Line::Lend(lend(line)),
+        Some(b'p') => Line::Poke(named_buffer(line), size(line, 2), byte(line, 3)),
+        Some(b'v') => Line::View,
+        Some(b'o') => Line::Call(Call::Open),
+        Some(b't') => Line::Call(take(line)),
+        Some(b's') => Line::Call(Call::Select(byte(line, 1))),
+        Some(b'b') => Line::Call(Call::Back(number(line, 1))),
+        Some(b'm') => Line::Call(Call::Many(number(line, 1))),
+        _ => Line::Call(Call::Row(byte(line, 1))),
+    }
 }

@@ -1,94 +1,37 @@
 // What a call gave, as text.
-ghost use Rattle.std.specs.Prelude.{◌≡◌, ◌<◌};
+ghost use Rattle.std.specs.Prelude.{◌≡◌};
 ghost use Rattle.desk.specs.Numbers.{number_of, value_of};
 
-use desk::Answer;
+use crate::buffers::Buffers;
+use desk::Refusal;
+use input::sums::sum;
 
-// A write that fails is passed over, and the next one is tried.
-pub fn print(out: &impl Print, words: &[u8]) {
-    let _ = out.write_all(words);
-}
-
-pub fn print_end(out: &impl Print) {
-    print(out, b"\n");
-}
-
-fn number(answer: Answer) -> u64
-    ensures { result ≡ number_of answer }
+fn number_and_value(answer: Result<u16, Refusal>) -> (u16, u16)
+    ensures { (result.0 ≡ number_of answer) × (result.1 ≡ value_of answer) }
 {
     match answer {
-        Answer::Done(_) => 0,
-        Answer::WrongLength => 1,
-        Answer::NoSuch => 2,
-        Answer::Full => 3,
-        Answer::TooFar => 4,
-        Answer::Invalid => 6,
+        Ok(value) => (0, value),
+        Err(refusal) => (u16::from(refusal), 0),
     }
 }
 
-fn value(answer: Answer) -> u64
-    ensures { result ≡ value_of answer }
-{
-    match answer {
-        Answer::Done(value) => value as u64,
-        Answer::WrongLength => 0,
-        Answer::NoSuch => 0,
-        Answer::Full => 0,
-        Answer::TooFar => 0,
-        Answer::Invalid => 0,
-    }
-}
-
-// The sum of a lent part: the number that its bytes are the digits of, in base 256, modulo the prime 4,294,967,291. So every
-// place counts by a weight of its own, and zeros alone sum to 0.
-fn sum(bytes: &[u8]) -> u64
-    ensures { result < 4294967291 }
-{
-    let mut n = 0;
-    let mut i = 0;
-    while i < bytes.len() {
-        n = (n * 256 + wide(bytes[i])) % 4294967291;
-        i += 1;
-    }
-    n
-}
-
-fn wide(byte: u8) -> u64
-    ensures { result < 256 }
-{
-    byte as u64
-}
-
-fn print_number(out: &impl Print, n: u64) {
-    print(out, b" ");
-    let _ = print!(out; "{n}");
-}
-
-fn print_sum(out: &impl Print, bytes: &[u8]) {
-    print(out, b" ");
-    let s = sum(bytes);
-    let _ = print!(out; "{s:08x}");
-}
-
-// Number and value.
-pub fn print_answer(out: &impl Print, answer: Answer) {
-    print(out, b" |");
-    print_number(out, number(answer));
-    print_number(out, value(answer));
+pub fn print_answer(out: &impl Print, answer: Result<u16, Refusal>) {
+    let (number, value) = number_and_value(answer);
+    let _ = print!(out; " | {number} {value}");
 }
 
 // Number, length and sum of the part.
 pub fn print_view(out: &impl Print, desk: &[u8]) {
-    print(out, b" |");
-    print_number(out, number(desk::view_number(desk)));
+    let (number, _) = number_and_value(desk::view_number(desk));
     let part = desk::view(desk);
-    print_number(out, part.len() as u64);
-    print_sum(out, part);
+    let length = part.len();
+    let sum = sum(0, part);
+    let _ = print!(out; " | {number} {length} {sum:08x}");
 }
 
-pub fn print_sums(out: &impl Print, desk: &[u8], log: &[u8], tray: &[u8]) {
-    print(out, b" |");
-    print_sum(out, desk);
-    print_sum(out, log);
-    print_sum(out, tray);
+pub fn print_sums(out: &impl Print, buffers: &Buffers) {
+    let desk = sum(0, &buffers.desk);
+    let log = sum(0, &buffers.log);
+    let tray = sum(0, &buffers.tray);
+    let _ = print!(out; " | {desk:08x} {log:08x} {tray:08x}");
 }

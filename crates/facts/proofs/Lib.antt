@@ -2,4 +2,4 @@
 pub mod Choice
 pub mod Every
 pub mod Over
-mod Halves
+pub mod Tail

@@ -1,14 +1,14 @@
 -- A list written over: its length, what lies inside and outside, one store more, a lent part that comes back, a text behind a text. Assumes nothing.
 use mathlib.Core.Path.{◌≡◌, refl, ap, sym, ◌∙◌}
 use mathlib.Core.List.{List, [], ◌∷◌, ◌++◌}
-use Prim.Native.Nat.{ℕ, zero, suc, ◌+◌, ◌<◌, ◌≤◌}
-use native.Mathlib.Nat.{add-zero, zero-add, suc-add, not-suc-le-zero, le_of_suc-le-suc, suc-ne-zero}
+use Prim.Native.Nat.{ℕ, zero, suc, ◌+◌, ◌-◌, ◌<◌, ◌≤◌}
+use native.Mathlib.Nat.{add-sub_cancel_left, add-zero, zero-add, suc-add, not-suc-le-zero, le_of_suc-le-suc, suc-ne-zero}
 use native.Mathlib.Numerals.{add-one}
 use native.Mathlib.Omega.{arith}
 use lib.ListN.{length, get_or, set, take, drop, length-drop, take-append-drop}
 use lib.Seq.{get_or-drop, get_or-take, take-suc, length-take-le}
 use borrow.Rule.Slice.PartMut.{put_mid}
-use Rattle.facts.specs.Over.{over, part}
+use Rattle.facts.specs.Over.{over, part, exchange_of}
 
 pub length-over : (d : List ℕ) (at : ℕ) (s : List ℕ) → length (over d at s) ≡ length d
 length-over [] at s = refl
@@ -66,13 +66,6 @@ over_snoc (x ∷ d) (suc at) s n v e = rw suc-add (ap (λ (l : List ℕ). x ∷ 
 over_snoc (x ∷ d) zero [] n v e = rw (zero-add, ← e) (ap (λ (l : List ℕ). v ∷ l) (sym (over_nil d zero)))
 over_snoc (x ∷ d) zero (w ∷ s) n v e = rw (zero-add, ← e) (ap (λ (l : List ℕ). w ∷ l) (rw zero-add at (over_snoc d zero s (length s) v refl)))
 
--- a store before
-pub set-over : (d : List ℕ) (at : ℕ) (s : List ℕ) (k v : ℕ) → k < at → set (over d at s) k v ≡ over (set d k v) at s
-set-over [] at s k v h = refl
-set-over (x ∷ d) zero s k v h = absurd (not-suc-le-zero h)
-set-over (x ∷ d) (suc at) s zero v h = refl
-set-over (x ∷ d) (suc at) s (suc k) v h = ap (λ (l : List ℕ). x ∷ l) (set-over d at s k v (le_of_suc-le-suc h))
-
 -- two stores side by side
 pub over_two : (d : List ℕ) (at v w : ℕ) → set (set d at v) (at + 1) w ≡ over d at (v ∷ w ∷ [])
 over_two d at v w =
@@ -118,12 +111,6 @@ length-part d from n h = length-take-le n (drop from d) (simp length-drop (omega
 pub over-three : (d : List ℕ) (at u v w : ℕ) → set (set (set d at u) (at + 1) v) (at + 2) w ≡ over d at (u ∷ v ∷ w ∷ [])
 over-three d at u v w = ap (λ (l : List ℕ). set l (at + 2) w) (over_two d at u v) ∙ over_snoc d at (u ∷ v ∷ []) 2 w refl
 
--- a list written in two parts, the tail first: the record in place
-pub over_both : (d h t : List ℕ) → length d ≡ length h + length t → over (over d (length h) t) 0 h ≡ h ++ t
-over_both d [] t e = over_nil (over d 0 t) 0 ∙ over_all d t (omega arith)
-over_both [] (v ∷ h) t e = absurd (suc-ne-zero (length h + length t) (sym (e ∙ suc-add (length h) (length t))))
-over_both (x ∷ d) (v ∷ h) t e = ap (λ (l : List ℕ). v ∷ l) (over_both d h t (omega arith))
-
 -- the front up to the end of what was written
 pub front_over : (d : List ℕ) (at : ℕ) (s : List ℕ) → at + length s ≤ length d → take (at + length s) (over d at s) ≡ take at d ++ s
 front_over [] zero [] h = refl
@@ -157,3 +144,23 @@ over_join (x ∷ d) zero (v ∷ s) t = rw zero-add (ap (λ (l : List ℕ). v ∷
 
 pub over_then : (d : List ℕ) (n : ℕ) (s t : List ℕ) (k : ℕ) {o p : List ℕ} → k ≡ n + length s → o ≡ over d n s → p ≡ over o k t → p ≡ over d n (s ++ t)
 over_then d n s t k e f g = g ∙ (λ i. over (f i) (e i) t) ∙ over_join d n s t
+
+-- A front and what lies behind it, each written where the other stood.
+pub exchange_halves : (d : List ℕ) (n : ℕ) → n + n ≤ length d → part d n n ++ (part d 0 n ++ drop n (drop n d)) ≡ exchange_of d n
+exchange_halves d n size =
+    let first = over d 0 (part d n n) in
+    let front : take n first ≡ part d n n = take-over_front d (part d n n) n (length-part d n n size) (omega arith) refl in
+    let behind : drop n first ≡ drop n d = drop-over d 0 (part d n n) n (omega (arith, length-part d n n size)) in
+    (λ i. sym front i ++ (part d 0 n ++ drop n (sym behind i)))
+    ∙ part-over first n n (length-part d 0 n (omega arith)) (omega (arith, length-over d 0 (part d n n))) refl
+
+-- One turn of the loop that slides bytes down: what is read lies behind what is covered.
+pub slide_more : (d : List ℕ) (to from j : ℕ) {o : List ℕ} → to ≤ from → from + j < length d → o ≡ over d to (part d from j)
+    → set o (to + j) (get_or o (from + j) 0) ≡ over d to (part d from (j + 1))
+slide_more d to from j {o} low high e =
+    over_more d to d from j high e
+    (ap (λ (l : List ℕ). get_or l (from + j) 0) e ∙ behind_over d to (part d from j) (from + j) (omega (arith, length-part d from j (omega arith))))
+
+-- the same of a part lent by its two ends
+pub over_lent : (d : List ℕ) (at n : ℕ) (y : List ℕ) → length y ≡ n → at + n ≤ length d → put_mid at ((at + n) - at) d y ≡ over d at y
+over_lent d at n y e h = part-over d at ((at + n) - at) (e ∙ sym (add-sub_cancel_left at n)) (rw add-sub_cancel_left h) refl

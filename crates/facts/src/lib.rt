@@ -1,122 +1,93 @@
-// Loops over lent bytes, the smaller of two numbers, and a choice of two: all that is done to bytes without knowing what they mean.
+// What is done to lent bytes, and a choice of two: all that is done to bytes without knowing what they mean.
 #![tactic(auto)]
 
-ghost use Rattle.std.specs.Prelude.{◌≡◌, ◌+◌, ◌≤◌, min, length, replicate};
+ghost use Rattle.std.specs.Prelude.{◌≡◌, ◌+◌, ◌≤◌, length, replicate};
 ghost use Rattle.facts.specs.Choice.{pick};
 ghost use Rattle.facts.specs.Over.{over, part, exchange_of};
 ghost use Rattle.facts.specs.Every.{same_of, blank_of};
 
-pub fn least(a: u8, b: u8) -> u8
-    ensures { result ≡ min a b }
-{
-    if a < b { a } else { b }
-}
-
-// The first byte where the test passes, else the second.
-pub fn choose(test: bool, x: u8, y: u8) -> u8
+// The first where the test passes, else the second.
+pub fn choose<T: Copy>(test: bool, x: T, y: T) -> T
     ensures { result ≡ pick test x y }
 {
-    if test {
-        return x;
-    }
-    y
+    if test { x } else { y }
 }
+
+// What is lent stays as it is: all the bytes, with a place and a number beside them, since `over`, `part` and `blank_of`, by which the crates above say
+// what they write and test, name places in the whole.
 
 // The whole of a lent part becomes 0.
 pub fn blank(out: &mut [u8])
     ensures { out.new ≡ replicate (length out.old) 0 }
 {
-    let mut i = 0;
-    while i < out.len() {
-        out[i] = 0;
-        i += 1;
-    }
+    out.fill(0);
 }
 
 // `n` bytes from `at` on become 0.
+#[tactic(auto, using(crate::proofs::Over::over_lent))]
 pub fn wipe(bytes: &mut [u8], at: usize, n: usize)
     requires { at + n ≤ length bytes.old }
     ensures { bytes.new ≡ over bytes.old at (replicate n 0) }
 {
-    let end = at + n;
-    blank(&mut bytes[at..end]);
+    bytes[at..at + n].fill(0);
 }
 
 // `src` over the front of `out`.
+#[tactic(auto, using(crate::proofs::Over::over_front))]
 pub fn copy(out: &mut [u8], src: &[u8])
     requires { length src.now ≤ length out.old }
     ensures { out.new ≡ over out.old 0 src.now }
 {
-    let mut i = 0;
-    while i < src.len() {
-        out[i] = src[i];
-        i += 1;
-    }
+    out[..src.len()].copy_from_slice(src);
 }
 
 // `n` bytes from `from` on go down to `to`, one after the other: what they cover is read before it is covered.
+#[tactic(auto, using(crate::proofs::Over::over_nil, crate::proofs::Over::slide_more))]
 pub fn slide(bytes: &mut [u8], to: usize, from: usize, n: usize)
     requires { (to ≤ from) × (from + n ≤ length bytes.old) }
     ensures { bytes.new ≡ over bytes.old to (part bytes.old from n) }
 {
-    let mut j = 0;
-    while j < n {
+    for j in 0..n {
         bytes[to + j] = bytes[from + j];
-        j += 1;
     }
 }
 
 // `n` bytes go from `from` to `to`, by way of a copy since the two may overlap, after `size` bytes from `at` on became 0.
+#[tactic(auto, using(crate::proofs::Over::over_lent))]
 pub fn carry(bytes: &mut [u8], at: usize, size: usize, from: usize, to: usize, n: usize)
     requires { (n ≤ 256) × (at + size ≤ length bytes.old) × (from + n ≤ length bytes.old) × (to + n ≤ length bytes.old) }
     ensures { bytes.new ≡ over (over bytes.old at (replicate size 0)) to (part bytes.old from n) }
 {
     let mut held = [0u8; 256];
-    let end = from + n;
-    copy(&mut held, &bytes[from..end]);
+    held[..n].copy_from_slice(&bytes[from..from + n]);
     wipe(bytes, at, size);
-    let stop = to + n;
-    copy(&mut bytes[to..stop], &held[..n]);
+    bytes[to..to + n].copy_from_slice(&held[..n]);
 }
 
 // The first `n` bytes and the `n` behind them change places.
+#[tactic(auto, using(crate::proofs::Over::exchange_halves))]
 pub fn exchange(bytes: &mut [u8], n: usize)
     requires { n + n ≤ length bytes.old }
     ensures { bytes.new ≡ exchange_of bytes.old n }
 {
-    let mut i = 0;
-    while i < n {
-        let x = bytes[i];
-        bytes[i] = bytes[n + i];
-        bytes[n + i] = x;
-        i += 1;
-    }
+    let (front, behind) = bytes.split_at_mut(n);
+    front.swap_with_slice(&mut behind[..n]);
 }
 
-// Whether the first `n` bytes of two slices are the same. One flag and no way out, so that the compiler can take many bytes at a time.
+// Whether the first `n` bytes of two slices are the same.
 pub fn same(a: &[u8], b: &[u8], n: usize) -> bool
     requires { (n ≤ length a.now) × (n ≤ length b.now) }
     ensures { result ≡ same_of a.now b.now n }
 {
-    let mut ok = true;
-    let mut i: usize = 0;
-    while i < n {
-        ok = ok & (a[i] == b[i]);
-        i += 1;
-    }
-    ok
+    a[..n] == b[..n]
 }
 
-// Whether `n` bytes from `at` on are 0; joined as in `same`.
+// Whether `n` bytes from `at` on are 0. One flag and no way out, so that the compiler can take many bytes at a time.
 pub fn is_blank(bytes: &[u8], at: usize, n: usize) -> bool
     requires { at + n ≤ length bytes.now }
     ensures { result ≡ blank_of bytes.now at n }
 {
-    let mut ok = true;
-    let mut i: usize = 0;
-    while i < n {
-        ok = ok & (bytes[at + i] == 0);
-        i += 1;
-    }
-    ok
+    bytes[at..at + n]
+        .iter()
+        .fold(true, |blank, byte| blank & (*byte == 0))
 }

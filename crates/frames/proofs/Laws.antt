@@ -1,11 +1,10 @@
 -- A frame line in a part of five bytes, which line of raw bytes comes next, and raw bytes that are held. Assumes nothing.
 use mathlib.Core.Path.{◌≡◌, refl, sym, ap, ◌∙◌}
 use mathlib.Core.List.{List, [], ◌∷◌, ◌++◌}
-use Prim.Native.Nat.{ℕ, zero, suc, ◌+◌, ◌-◌, ◌<◌, ◌≤◌}
-use native.Mathlib.Numerals.{add-one}
+use Prim.Native.Nat.{ℕ, suc, ◌+◌, ◌-◌, ◌<◌, ◌≤◌}
 use native.Mathlib.Omega.{arith}
 use lib.ListN.{length, get_or, take, drop, length-append, length-drop}
-use lib.Seq.{drop-cons, take_all, take_at, drop_at}
+use lib.Seq.{take_all, take_at, drop_at}
 use borrow.Author.Tests.{eq-eqb}
 use Rattle.wire.specs.Line.{line_of}
 use Rattle.wire.specs.Written.{Outcome, outcome, write_line_of}
@@ -23,25 +22,21 @@ unfolding write_line_of
 written_line five first second e w = ap (λ (o : Outcome). o.out) (rw (eq-eqb (length five) 5 e) at w)
 
 -- the line of the pair that comes next, and the others
-pub reel_more : (s : List ℕ) (i : ℕ) → i + 1 < length s → reel_of_raw (drop i s) ≡ line_of (get_or s i 0) (get_or s (i + 1) 0) ++ reel_of_raw (drop (i + 2) s)
-reel_more s i h =
-    let two : suc (i + 1) ≡ i + 2 = omega arith in
-    let rest : drop (suc i) s ≡ get_or s (i + 1) 0 ∷ drop (i + 2) s =
-    ap (λ (k : ℕ). drop k s) (sym (add-one i)) ∙ drop-cons s (i + 1) 0 h ∙ ap (λ (k : ℕ). get_or s (i + 1) 0 ∷ drop k s) two in
-    ap reel_of_raw (drop-cons s i 0 (omega arith) ∙ ap (λ (l : List ℕ). get_or s i 0 ∷ l) rest)
+pub reel_more : (pair s : List ℕ) → length pair ≡ 2 → reel_of_raw (pair ++ s) ≡ line_of (get_or pair 0 0) (get_or pair 1 0) ++ reel_of_raw s
+reel_more [] s h = absurd (omega arith)
+reel_more (x ∷ []) s h = absurd (omega arith)
+reel_more (x ∷ y ∷ []) s h = refl
+reel_more (x ∷ y ∷ z ∷ more) s h = absurd (omega arith)
 
 -- fewer than two bytes are no line
-pub reel_end : (s : List ℕ) (i : ℕ) → length s ≤ i + 1 → reel_of_raw (drop i s) ≡ []
-reel_end [] zero h = refl
-reel_end [] (suc i) h = refl
-reel_end (x ∷ []) zero h = refl
-reel_end (x ∷ y ∷ s) zero h = absurd (omega arith)
-reel_end (x ∷ s) (suc i) h = reel_end s i (omega arith)
+pub reel_end : (s : List ℕ) → length s < 2 → reel_of_raw s ≡ []
+reel_end [] h = refl
+reel_end (x ∷ []) h = refl
+reel_end (x ∷ y ∷ s) h = absurd (omega arith)
 
 -- a frame of nothing, and the others
-pub nulls_more : (n : ℕ) → 0 < n → reel_of_raw (nulls_of n) ≡ line_of 0x80 0x80 ++ reel_of_raw (nulls_of (n - 1))
-nulls_more zero h = elim h [ ]
-nulls_more (suc n) h = let e : n ≡ suc n - 1 = omega arith in ap (λ (k : ℕ). line_of 0x80 0x80 ++ reel_of_raw (nulls_of k)) e
+pub nulls_more : (n i : ℕ) → i < n → reel_of_raw (nulls_of (n - i)) ≡ line_of 0x80 0x80 ++ reel_of_raw (nulls_of (n - (i + 1)))
+nulls_more n i h = let e : n - i ≡ suc (n - (i + 1)) = omega arith in ap (λ (k : ℕ). reel_of_raw (nulls_of k)) e
 
 -- Raw bytes that are held, part by part.
 

@@ -14,7 +14,7 @@ fn put_line(out: &mut [u8], n: usize, first: u8, second: u8) -> usize
     ensures { Laid out.old n (line_of first second) out.new result }
 {
     let end = n + 5;
-    wire::write_line(&mut out[n..end], first, second);
+    let _ = wire::write_line(&mut out[n..end], first, second);
     end
 }
 
@@ -24,10 +24,8 @@ fn put_pairs(out: &mut [u8], n: usize, raw: &[u8]) -> usize
     ensures { Laid out.old n (reel_of_raw raw.now) out.new result }
 {
     let mut m = n;
-    let mut i = 0;
-    while i + 1 < raw.len() {
-        m = put_line(out, m, raw[i], raw[i + 1]);
-        i += 2;
+    for pair in raw.chunks_exact(2) {
+        m = put_line(out, m, pair[0], pair[1]);
     }
     m
 }
@@ -38,10 +36,8 @@ pub fn put_nulls(out: &mut [u8], n: usize, count: usize) -> usize
     ensures { Laid out.old n (reel_of_raw (nulls_of count)) out.new result }
 {
     let mut m = n;
-    let mut left = count;
-    while 0 < left {
+    for _ in 0..count {
         m = put_line(out, m, 0x80, 0x80);
-        left -= 1;
     }
     m
 }

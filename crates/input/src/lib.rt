@@ -1,32 +1,42 @@
-// The whole of standard input, read after read, for a program that works on it when it is there.
+// The whole of standard input, read after read, for a program that works on it when it is there; and what a program says of a call that fails.
 #![tactic(auto)]
 
-ghost use Rattle.std.specs.Prelude.{◌≡◌, ◌+◌, ◌≤◌, length};
+pub mod sums;
+pub mod words;
+
+ghost use Rattle.std.specs.Prelude.{◌≡◌, ◌≤◌, length, IfOk, MatchResult};
 
 use std::io;
 use std::io::{Read, Write};
 
-// How many bytes there are, how many of them the last read brought, and whether it failed.
-#[derive(Clone, Copy)]
-pub struct Got {
+// How many bytes had come when a read failed, and why it did.
+#[derive(Clone, Copy, Drop)]
+pub struct Cut {
     pub n: usize,
-    pub came: usize,
-    pub failed: bool,
+    pub error: io::Error,
 }
 
-// How long the words of an error are: its number stands behind them in round brackets, and zeros fill up the rest.
-fn count_words(text: &[u8]) -> usize
-    ensures { result ≤ length text.now }
+// The words of an error: its number stands behind them in round brackets, and zeros fill up the rest.
+fn words_of(text: &[u8]) -> &[u8] {
+    let end = text
+        .iter()
+        .position(|byte| *byte == 0)
+        .unwrap_or(text.len());
+    let bracket = text[..end].iter().position(|byte| *byte == b'(');
+    &text[..bracket.map_or(end, |at| at.saturating_sub(1))]
+}
+
+// A write that fails is passed over, and the next one is tried. What a terminal or a file takes, no clause can say.
+pub fn print(to: &impl Print, words: &[u8]) {
+    let _ = to.write_all(words);
+}
+
+// Bytes that go out are counted here and nowhere else; where the write fails, none are.
+pub fn send(to: &impl Print, bytes: &[u8]) -> io::Result<usize>
+    ensures { IfOk result (λ n. n ≡ length bytes.now) }
 {
-    for (i, byte) in text.iter().enumerate() {
-        if *byte == b'(' {
-            return i.saturating_sub(1);
-        }
-        if *byte == 0 {
-            return i;
-        }
-    }
-    text.len()
+    to.write_all(bytes)?;
+    Ok(bytes.len())
 }
 
 // Says what failed, and why, on what is standard error in a program: a line, and no number in it.
@@ -34,49 +44,37 @@ pub fn fail(err: &impl Print, what: &[u8], error: io::Error) {
     let mut text = [0u8; 256];
     let mut rest = &mut text[..];
     let _ = write!(rest, "{error}");
-    let n = count_words(&text);
-    let _ = err.write_all(what);
-    let _ = err.write_all(b": ");
-    let _ = err.write_all(&text[..n]);
-    let _ = err.write_all(b"\n");
-}
-
-// One read, behind the first `n` bytes. At the end of the input none come. Where it fails, `what` is said with the reason.
-fn read_more<R: Read, E: Print>(
-    from: &mut R,
-    err: &E,
-    into: &mut [u8],
-    n: usize,
-    what: &[u8],
-) -> Got
-    requires { n ≤ length into.old }
-    ensures { (result.n ≤ length into.old) × (result.n ≡ n + result.came) }
-{
-    match from.read(&mut into[n..]) {
-        Ok(came) => Got {
-            n: n + came,
-            came,
-            failed: false,
-        },
-        Err(error) => {
-            fail(err, what, error);
-            Got {
-                n,
-                came: 0,
-                failed: true,
-            }
-        }
-    }
+    print(err, what);
+    print(err, b": ");
+    print(err, words_of(&text));
+    print(err, b"\n");
 }
 
 // Read after read, until the input ends, the buffer is full or a read fails.
-pub fn read_all<R: Input, E: Print>(rt: &R, err: &E, into: &mut [u8], what: &[u8]) -> Got
-    ensures { result.n ≤ length into.old }
+pub fn read_all<R: Input>(rt: &R, into: &mut [u8]) -> Result<usize, Cut>
+    ensures { MatchResult result (λ n. n ≤ length into.old) (λ cut. cut.n ≤ length into.old) }
 {
     let mut from = rt.reader();
-    let mut got = read_more(&mut from, err, into, 0, what);
-    while (0 < got.came) & (got.n < into.len()) {
-        got = read_more(&mut from, err, into, got.n, what);
+    let mut n = 0;
+    while n < into.len() {
+        let came = from.read(&mut into[n..]).map_err(|error| Cut { n, error })?;
+        if came == 0 {
+            return Ok(n);
+        }
+        n += came;
     }
-    got
+    Ok(n)
+}
+
+// The same for a program that works on what had come before a read failed: that it failed is said, with why, and behind `what`.
+pub fn read_what_comes<R: Input>(rt: &R, err: &impl Print, into: &mut [u8], what: &[u8]) -> usize
+    ensures { result ≤ length into.old }
+{
+    match read_all(rt, into) {
+        Ok(n) => n,
+        Err(cut) => {
+            fail(err, what, cut.error);
+            cut.n
+        }
+    }
 }

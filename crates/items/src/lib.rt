@@ -1,16 +1,19 @@
 // One item of a tape: what comes next by the cells of a row, a row's preamble, and the raw bytes of an item behind what a buffer holds already.
+// A buffer with how much of it is laid stays as it is: (d) texts of any length stand one behind the other here, and a call that were lent the rest alone would
+// give back its own length, to be added at each call to what was laid before, where `n` says both.
 #![tactic(auto)]
 
 mod rows;
 
 ghost use Rattle.std.specs.Prelude.{◌≡◌, [], ◌∷◌, ◌+◌, ◌<◌, ◌≤◌, length};
 ghost use Rattle.facts.specs.Over.{over};
+ghost use Rattle.tape.specs.Channel.{number_of_channel};
 ghost use Rattle.tape.specs.Item.{gap_of, next_item_of, bytes_of};
 ghost use Rattle.tape.specs.Preamble.{style_of, indent_of, preamble_item_of};
 ghost use Rattle.items.specs.Laid.{Laid};
 
 use rows::place;
-use tape::Item;
+use tape::{Channel, Item};
 
 // Resume caption loading, erase the non-displayed memory, end of caption: what a tape has beside its rows. Erase displayed memory ends what it shows.
 pub const RCL: Item = Item {
@@ -47,13 +50,13 @@ fn put_pair(out: &mut [u8], n: usize, a: u8, b: u8)
 }
 
 // The bytes of an item behind the first `n` of a buffer: a control pair twice, characters once. Gives where they end.
-pub fn put_item(out: &mut [u8], n: usize, channel: u8, item: Item) -> usize
-    requires { (1 ≤ channel) × (channel ≤ 2) × (n + length (bytes_of channel item) ≤ length out.old) }
-    ensures { Laid out.old n (bytes_of channel item) out.new result }
+pub fn put_item(out: &mut [u8], n: usize, channel: Channel, item: Item) -> usize
+    requires { n + length (bytes_of (number_of_channel channel) item) ≤ length out.old }
+    ensures { Laid out.old n (bytes_of (number_of_channel channel) item) out.new result }
 {
     let b = wire::sent(item.second);
     if item.first < 0x20 {
-        let a = wire::sent(item.first + (channel - 1) * 8);
+        let a = wire::sent(item.first + channel.offset());
         put_pair(out, n, a, b);
         put_pair(out, n + 2, a, b);
         return n + 4;
@@ -66,16 +69,15 @@ pub fn put_item(out: &mut [u8], n: usize, channel: u8, item: Item) -> usize
 fn gap(next: u8, after: u8) -> u8
     ensures { (result ≡ gap_of next after) × (result ≤ 3) }
 {
-    if next == 0 {
-        if after == 0 {
-            return 3;
-        }
-        return 2;
+    match (next, after) {
+        (0, 0) => 3,
+        (0, _) => 2,
+        _ => 1,
     }
-    1
 }
 
 // What comes next, by the codes of three cells side by side.
+#[tactic(auto, unfolding(tape::specs::Item::next_item_of))]
 pub fn next_item(code: u8, next: u8, after: u8) -> Item
     ensures { result ≡ next_item_of code next after }
 {
@@ -109,31 +111,28 @@ pub fn next_item(code: u8, next: u8, after: u8) -> Item
 }
 
 // The low five bits of a preamble but for underline: an indent in white, or the row's other style.
+#[tactic(auto, unfolding(tape::specs::Preamble::style_of))]
 fn style(pen: u8, lead: usize) -> u8
     requires { lead < 32 }
     ensures { (result ≡ style_of pen lead) × (result < 32) }
 {
-    let own = pen % 16;
-    if own == 0 {
-        return 0x10 + (lead / 4 * 2) as u8;
+    match pen % 16 {
+        0 => 0x10 + (lead / 4 * 2) as u8,
+        8 => 0x0e,
+        own => own * 2,
     }
-    if own == 8 {
-        return 0x0e;
-    }
-    own * 2
 }
 
 // The columns that a preamble leads on: by fours in a white row, none in any other.
+#[tactic(auto, unfolding(tape::specs::Preamble::indent_of))]
 fn indent(pen: u8, lead: usize) -> usize
     ensures { result ≡ indent_of pen lead }
 {
-    if pen % 16 == 0 {
-        return lead / 4 * 4;
-    }
-    0
+    if pen % 16 == 0 { lead / 4 * 4 } else { 0 }
 }
 
 // The preamble of a row, counted from 0, whose first non-empty cell stands behind `lead` empty ones.
+#[tactic(auto, unfolding(tape::specs::Preamble::preamble_item_of))]
 pub fn preamble_item(row: usize, pen: u8, lead: usize) -> Item
     requires { (row < 15) × (lead < 32) }
     ensures { result ≡ preamble_item_of row pen lead }

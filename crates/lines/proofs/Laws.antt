@@ -1,33 +1,52 @@
 -- The laws of the register's lines that callers cite: printing one behind the other, how long lines are, and that an empty screen prints none. Assumes nothing.
 use mathlib.Core.Path.{◌≡◌, refl, ap, sym, ◌∙◌}
 use mathlib.Core.Bool.{true}
-use mathlib.Core.List.{List, [], ◌++◌}
-use Prim.Native.Nat.{ℕ, zero, suc, ◌+◌, ◌*◌, ◌<◌}
+use mathlib.Core.List.{List, [], ◌∷◌, ◌++◌}
+use Prim.Native.Nat.{ℕ, zero, suc, ◌+◌, ◌-◌, ◌*◌, ◌<◌, ◌≤◌}
 use native.Mathlib.Nat.{zero-add}
 use native.Mathlib.Omega.{arith}
-use lib.ListN.{length, get_or, length-append}
+use lib.ListN.{length, get_or, set, length-append}
 use borrow.Author.Tests.{eq-eqb}
-use Rattle.facts.specs.Over.{over}
-use Rattle.facts.proofs.Over.{over_nil, over_then}
+use borrow.Rule.Slice.PartMut.{put_mid}
+use Rattle.facts.specs.Over.{over, part}
+use Rattle.facts.proofs.Over.{over_nil, over_snoc}
+use Rattle.facts.proofs.Tail.{tail_then}
 use Rattle.cell.specs.Place.{row_number, row_at}
 use Rattle.page.specs.Page.{displayed, is_empty_of}
 use Rattle.page.proofs.Laws.{is_empty_of_at}
 use Rattle.lines.specs.Line.{codes_of, frame_of, row_of, head_of, Run, row_line_of, top_lines_of, lines_of, refused_of, Put}
 use Rattle.lines.proofs.Printed.{end_of_none}
 
--- Texts written one behind the other are one text.
+-- where there is nothing to print
+pub put_nothing : (d : List ℕ) (most : ℕ) {text : List ℕ} → text ≡ [] → Put d text most d 0
+put_nothing d most e = record { bytes = sym (over_nil d 0) ∙ ap (over d 0) (sym e); next = omega (arith, ap length e); room = omega arith }
 
-pub put_then : {d o left s t : List ℕ} {n k m a b : ℕ} → Put d n s a o k → Put o k t b left m → Put d n (s ++ t) (a + b) left m
-put_then {d} {s = s} {t = t} {n = n} {k = k} p q =
+-- A text written behind a text is one text.
+pub put_then : (d s t : List ℕ) {o left : List ℕ} {k m a b : ℕ} → Put d s a o k → k ≤ length d → Put (part o k (length o - k)) t b left m
+    → Put d (s ++ t) (a + b) (put_mid k (length o - k) o left) (k + m)
+put_then d s t p h q =
     let next = p.next in
     let last = q.next in
     let small = p.room in
     let most = q.room in
-    record { bytes = over_then d n s t k next p.bytes q.bytes; next = omega (arith, length-append s t); room = omega arith }
+    record { bytes = tail_then d s t _ next h p.bytes q.bytes; next = omega (arith, length-append s t); room = omega arith }
 
--- where there is nothing to print
-pub put_nothing : (d : List ℕ) (n most : ℕ) {text : List ℕ} → text ≡ [] → Put d n text most d n
-put_nothing d n most e = record { bytes = sym (over_nil d n) ∙ ap (over d n) (sym e); next = omega (arith, ap length e); room = omega arith }
+-- one byte behind a text
+pub put_byte : (d s : List ℕ) (v : ℕ) {o : List ℕ} {k a : ℕ} → Put d s a o k → Put d (s ++ (v ∷ [])) (a + 1) (set o k v) (k + 1)
+put_byte d s v {k = k} p =
+    let next = p.next in
+    let small = p.room in
+    record {
+      bytes = ap (λ (o : List ℕ). set o k v) p.bytes ∙ rw zero-add at (over_snoc d 0 s k v (sym next));
+      next = omega (arith, length-append s (v ∷ []));
+      room = omega arith;
+    }
+
+-- another name for what was printed, and more room
+pub put_as : {d left text more : List ℕ} {n a b : ℕ} → text ≡ more → a ≤ b → Put d text a left n → Put d more b left n
+put_as {d} e h p =
+    let small = p.room in
+    record { bytes = p.bytes ∙ ap (over d 0) e; next = p.next ∙ ap length e; room = omega arith }
 
 -- How long lines are.
 
@@ -35,10 +54,6 @@ pub length_codes_of : (s : List ℕ) (at from n : ℕ) → length (codes_of s at
 unfolding codes_of
 length_codes_of s at from zero = refl
 length_codes_of s at from (suc n) = simp length-append (omega (arith, length_codes_of s at from n))
-
-pub length_frame_of : (frame : ℕ) → length (frame_of frame) ≡ 6
-unfolding frame_of
-length_frame_of frame = refl
 
 pub length_head_of : (from to row : ℕ) → length (head_of from to row) ≡ 15
 unfolding head_of frame_of row_of

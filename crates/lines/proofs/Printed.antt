@@ -6,7 +6,10 @@ use mathlib.Core.List.{List}
 use Prim.Native.Nat.{ℕ, zero, suc, ◌+◌, ◌-◌, ◌≤◌, ◌<◌}
 use native.Mathlib.Omega.{arith}
 use lib.Dec.{eqb}
+use borrow.Author.Count.{below_more}
 use borrow.Author.Tests.{eqb-true, eqb-false, eq-eqb}
+use Rattle.std.specs.Prelude.{Option, Some, None, MatchOption}
+use Rattle.std.specs.Option.{unwrap_or}
 use Rattle.facts.proofs.Choice.{pick_cases, below_cases, and_left, and_right, and_both}
 use Rattle.lines.specs.Span.{code_at, lead_more_of, end_more_of, lead_of, end_of}
 
@@ -22,10 +25,6 @@ pub record Last (s : List ℕ) (at n end : ℕ) : Type 0 where
   pub empty : (k : ℕ) → end ≤ k → k < n → code_at s at k ≡ 0
   pub filled : (k : ℕ) → end ≡ k + 1 → code_at s at k ≡ 0 → ⊥
 
--- the cells below n + 1 are those below n, and n
-pub below_more : (P : ℕ → Type 0) (k n : ℕ) → k < n + 1 → (k < n → P k) → P n → P k
-below_more P k n h f p = below_cases k n f (λ g. let e : n ≡ k = omega arith in rw e at p)
-
 pub lead_of_first : (s : List ℕ) (at n : ℕ) → First s at n (lead_of s at n)
 unfolding lead_of lead_more_of
 lead_of_first s at zero = record { high = omega arith; empty = λ k h. absurd (omega arith); filled = λ h. absurd (omega arith) }
@@ -39,7 +38,7 @@ lead_of_first s at (suc n) =
     let here = eqb-true lead n (and_right (eqb code 0) (eqb lead n) t) in
     record {
       high = omega arith;
-      empty = λ k h. below_more (λ j. code_at s at j ≡ 0) k n h (λ l. ih.empty k (omega arith)) (eqb-true code 0 (and_left (eqb code 0) (eqb lead n) t));
+      empty = below_more (λ k. code_at s at k ≡ 0) n (λ k l. ih.empty k (omega arith)) (eqb-true code 0 (and_left (eqb code 0) (eqb lead n) t));
       filled = λ h. absurd (omega arith);
     })
     (λ t. record {
@@ -62,7 +61,7 @@ end_of_last s at (suc n) =
     pick_cases (Last s at (suc n)) (eqb code 0)
     (λ t. record {
       high = omega arith;
-      empty = λ k low h. below_more (λ j. code_at s at j ≡ 0) k n (omega arith) (λ l. ih.empty k low l) (eqb-true code 0 t);
+      empty = λ k low h. below_more (λ j. end_of s at n ≤ j → code_at s at j ≡ 0) n (λ j l low. ih.empty j low l) (λ low. eqb-true code 0 t) k (omega arith) low;
       filled = ih.filled;
     })
     (λ t. record {
@@ -73,25 +72,23 @@ end_of_last s at (suc n) =
 
 -- No other number is such an end.
 
--- two numbers of which neither is below the other
-neither_below : (a b : ℕ) → (a < b → ⊥) → (b < a → ⊥) → a ≡ b
-neither_below a b f g = below_cases a b (λ l. absurd (f l)) (λ l. below_cases b a (λ h. absurd (g h)) (λ h. omega arith))
-
 pub lead_of_only : (s : List ℕ) (at n lead : ℕ) → First s at n lead → lead ≡ lead_of s at n
 lead_of_only s at n lead f =
     let g = lead_of_first s at n in
     let high = f.high in
     let most = g.high in
-    neither_below lead (lead_of s at n) (λ l. f.filled (omega arith) (g.empty lead l)) (λ l. g.filled (omega arith) (f.empty (lead_of s at n) l))
+    let no_less : lead < lead_of s at n → ⊥ = λ l. f.filled (omega arith) (g.empty lead l) in
+    let no_more : lead_of s at n < lead → ⊥ = λ l. g.filled (omega arith) (f.empty (lead_of s at n) l) in
+    omega arith
 
 pub end_of_only : (s : List ℕ) (at n end : ℕ) → Last s at n end → end ≡ end_of s at n
 end_of_only s at n end f =
     let g = end_of_last s at n in
     let high = f.high in
     let most = g.high in
-    neither_below end (end_of s at n)
-    (λ l. g.filled (end_of s at n - 1) (omega arith) (f.empty (end_of s at n - 1) (omega arith) (omega arith)))
-    (λ l. f.filled (end - 1) (omega arith) (g.empty (end - 1) (omega arith) (omega arith)))
+    let no_less : end < end_of s at n → ⊥ = λ l. g.filled (end_of s at n - 1) (omega arith) (f.empty (end_of s at n - 1) (omega arith) (omega arith)) in
+    let no_more : end_of s at n < end → ⊥ = λ l. f.filled (end - 1) (omega arith) (g.empty (end - 1) (omega arith) (omega arith)) in
+    omega arith
 
 -- the last cell before k is not empty, and those from k on are
 pub end_of_here : (s : List ℕ) (at n k : ℕ) → k ≤ n → ((j : ℕ) → k ≤ j → j < n → code_at s at j ≡ 0) → (code_at s at (k - 1) ≡ 0 → ⊥) → k ≡ end_of s at n
@@ -101,3 +98,11 @@ end_of_here s at n k high empty filled =
 -- with no non-empty cell there is nothing before the end
 pub end_of_none : (s : List ℕ) (at n : ℕ) → ((k : ℕ) → k < n → code_at s at k ≡ 0) → end_of s at n ≡ 0
 end_of_none s at n h = sym (end_of_only s at n 0 (record { high = omega arith; empty = λ k low. h k; filled = λ k e. absurd (omega arith) }))
+
+-- what a search from the front finds, or n where it finds none, is the first end
+pub lead_of_found : (s : List ℕ) (at n : ℕ) (r : Option ℕ) → MatchOption r ((k : ℕ) → 0 ≤ k → k < n → code_at s at k ≡ 0)
+    (λ i. (0 ≤ i) × (i < n) × (code_at s at i ≡ 0 → ⊥) × ((k : ℕ) → 0 ≤ k → k < i → code_at s at k ≡ 0)) → (unwrap_or r n ≡ lead_of s at n) × (unwrap_or r n ≤ n)
+lead_of_found s at n None f = (lead_of_only s at n n (record { high = omega arith; empty = λ k. f k (omega arith); filled = λ h. absurd (omega arith) }), omega arith)
+lead_of_found s at n (Some i) f =
+    let below = f.1 in
+    (lead_of_only s at n i (record { high = omega arith; empty = λ k. f.3 k (omega arith); filled = λ h. f.2 }), omega arith)

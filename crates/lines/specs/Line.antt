@@ -68,8 +68,8 @@ unfoldable pub refused_of : ℕ → ℕ → List ℕ
 refused_of frame number =
     (0x72 ∷ 0x65 ∷ 0x66 ∷ 0x75 ∷ 0x73 ∷ 0x65 ∷ 0x64 ∷ 0x20 ∷ []) ++ (frame_of frame ++ (digit_of number ∷ 0x0a ∷ []))
 
--- what a call that prints behind the first n bytes of a buffer promises: the text stands there, and r is where it ends, `most` bytes on at most
-pub record Put (out : List ℕ) (n : ℕ) (text : List ℕ) (most : ℕ) (left : List ℕ) (r : ℕ) : Type 0 where
-  pub bytes : left ≡ over out n text
-  pub next : r ≡ n + length text
-  pub room : r ≤ n + most
+-- what a call that prints at the front of a buffer promises: the text stands there, and r is its length, `most` at most
+pub record Put (out text : List ℕ) (most : ℕ) (left : List ℕ) (r : ℕ) : Type 0 where
+  pub bytes : left ≡ over out 0 text
+  pub next : r ≡ length text
+  pub room : r ≤ most

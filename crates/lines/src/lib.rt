@@ -1,7 +1,7 @@
-// The bytes of the register's lines, printed into a lent buffer behind what stands there already.
+// The bytes of the register's lines, printed at the front of a lent buffer.
 #![tactic(auto)]
 
-ghost use Rattle.std.specs.Prelude.{◌≡◌, [], ◌∷◌, ◌+◌, ◌-◌, ◌≤◌, length};
+ghost use Rattle.std.specs.Prelude.{◌≡◌, ◌+◌, ◌-◌, ◌≤◌, length};
 ghost use Rattle.facts.specs.Over.{over};
 ghost use Rattle.lines.specs.Span.{lead_of, end_of};
 ghost use Rattle.lines.specs.Line.{header, digit_of, frame_of, row_of, head_of, codes_of, run, row_line_of, lines_of, refused_of, Put};
@@ -9,74 +9,51 @@ ghost use Rattle.lines.specs.Line.{header, digit_of, frame_of, row_of, head_of, 
 use cell::Row;
 
 // The last decimal digit of a number.
+#[tactic(auto, unfolding(crate::specs::Line::digit_of))]
 fn digit(value: usize) -> u8
     ensures { result ≡ digit_of value }
 {
-    (value % 10) as u8 + 0x30
-}
-
-// The bytes of `src` behind the first `n` of a buffer.
-fn put(out: &mut [u8], n: usize, src: &[u8])
-    requires { n + length src.now ≤ length out.old }
-    ensures { out.new ≡ over out.old n src.now }
-{
-    let end = n + src.len();
-    facts::copy(&mut out[n..end], src);
+    (value % 10) as u8 + b'0'
 }
 
 // A frame in five digits, and a space.
-fn put_frame(out: &mut [u8], n: usize, frame: usize)
-    requires { n + 6 ≤ length out.old }
-    ensures { out.new ≡ over out.old n (frame_of frame) }
+#[tactic(auto, unfolding(crate::specs::Line::frame_of))]
+fn frame_text(frame: usize) -> [u8; 6]
+    ensures { result ≡ frame_of frame }
 {
-    let text = [
+    [
         digit(frame / 10000),
         digit(frame / 1000),
         digit(frame / 100),
         digit(frame / 10),
         digit(frame),
-        0x20,
-    ];
-    put(out, n, &text);
+        b' ',
+    ]
 }
 
 // A row in two digits, and a space.
-fn put_row(out: &mut [u8], n: usize, row: usize)
-    requires { n + 3 ≤ length out.old }
-    ensures { out.new ≡ over out.old n (row_of row) }
+#[tactic(auto, unfolding(crate::specs::Line::row_of))]
+fn row_text(row: Row) -> [u8; 3]
+    ensures { result ≡ row_of row.0 }
 {
-    let text = [digit(row / 10), digit(row), 0x20];
-    put(out, n, &text);
+    let number = row.0 as usize;
+    [digit(number / 10), digit(number), b' ']
 }
 
-// What stands before the codes of a line.
-fn put_head(out: &mut [u8], n: usize, from: usize, to: usize, row: usize)
-    requires { n + 15 ≤ length out.old }
-    ensures { out.new ≡ over out.old n (head_of from to row) }
-{
-    put_frame(out, n, from);
-    put_frame(out, n + 6, to);
-    put_row(out, n + 12, row);
-}
+// A row goes in as a screen and the place where it starts, which stays as it is: `writer` and `writable` read rows of a memory at places
+// that `cell` gives, and the laws of tapes speak of `lead_of` and `end_of` at such places.
 
 // How many cells of the row that starts at `at` stand before its first non-empty one.
 pub fn lead(screen: &[u8], at: usize) -> usize
     requires { at + 64 ≤ length screen.now }
     ensures { (result ≡ lead_of screen.now at 32) × (result ≤ 32) }
 {
-    let mut k: usize = 0;
-    while k < 32 {
-        if screen[at + k * 2] != 0 {
-            return k;
-        }
-        k += 1;
-    }
-    k
+    (0..32).find(|k| screen[at + *k * 2] != 0).unwrap_or(32)
 }
 
 // How many stand up to its last non-empty one; 0 where there is none. Most rows of a screen are empty, and such a row is passed over as a
 // whole; in the others the last cell is come to from the back.
-#[tactic(auto, using(crate::proofs::Printed::end_of_here))]
+#[tactic(auto, using(crate::proofs::Printed::end_of_here, crate::proofs::Printed::end_of_none))]
 pub fn end(screen: &[u8], at: usize) -> usize
     requires { at + 64 ≤ length screen.now }
     ensures { (result ≡ end_of screen.now at 32) × (result ≤ 32) }
@@ -84,80 +61,85 @@ pub fn end(screen: &[u8], at: usize) -> usize
     if facts::is_blank(screen, at, 64) {
         return 0;
     }
-    let mut k: usize = 32;
-    while 0 < k {
-        let last = k - 1;
-        if screen[at + last * 2] != 0 {
-            return k;
+    for k in (0..32).rev() {
+        if screen[at + k * 2] != 0 {
+            return k + 1;
         }
-        k = last;
     }
-    k
+    0
 }
 
-// The codes of the cells from `from` on up to `end`.
-fn put_codes(out: &mut [u8], n: usize, screen: &[u8], at: usize, from: usize, end: usize) -> usize
-    requires { (n + 64 ≤ length out.old) × (at + 64 ≤ length screen.now) × (from ≤ 32) × (end ≤ 32) }
-    ensures { Put out.old n (codes_of screen.now at from (end - from)) 64 out.new result }
+// The codes of the cells from `from` on up to `end`. Gives how many bytes they are.
+fn put_codes(out: &mut [u8], screen: &[u8], at: usize, from: usize, end: usize) -> usize
+    requires { (64 ≤ length out.old) × (at + 64 ≤ length screen.now) × (from ≤ 32) × (end ≤ 32) }
+    ensures { Put out.old (codes_of screen.now at from (end - from)) 64 out.new result }
 {
-    let mut m = n;
-    let mut k = from;
-    while k < end {
+    let mut n = 0;
+    for k in from..end {
         let code = screen[at + k * 2];
-        out[m] = wire::hex(code / 16);
-        out[m + 1] = wire::hex(code % 16);
-        m += 2;
-        k += 1;
+        out[n] = wire::hex(code / 16);
+        out[n + 1] = wire::hex(code % 16);
+        n += 2;
     }
-    m
+    n
 }
 
-// The line of one row of a run, where the row has a non-empty cell.
-fn put_row_line(out: &mut [u8], n: usize, from: usize, to: usize, screen: &[u8], row: u8) -> usize
-    requires { (n + 80 ≤ length out.old) × (length screen.now ≡ 960) × (1 ≤ row) × (row ≤ 15) }
-    ensures { Put out.old n (row_line_of (run from to screen.now) row) 80 out.new result }
+// What stands before the codes of a line.
+fn put_head(out: &mut [u8], from: usize, to: usize, row: Row)
+    requires { 15 ≤ length out.old }
+    ensures { out.new ≡ over out.old 0 (head_of from to row.0) }
 {
-    let at = cell::row_address(page::DISPLAYED, Row(row));
+    facts::copy(out, &frame_text(from));
+    facts::copy(&mut out[6..], &frame_text(to));
+    facts::copy(&mut out[12..], &row_text(row));
+}
+
+// A run's frames and its screen go in one by one, which stays as it is: of a struct that holds the lent screen each clause says whether it means
+// what it was or what it is, and code takes the screen out before it lends it on.
+
+// The line of one row of a run, where the row has a non-empty cell. Gives how many bytes it is.
+fn put_row_line(out: &mut [u8], from: usize, to: usize, screen: &[u8; 960], row: Row) -> usize
+    requires { (80 ≤ length out.old) × (1 ≤ row.0) × (row.0 ≤ 15) }
+    ensures { Put out.old (row_line_of (run from to screen.now) row.0) 80 out.new result }
+{
+    let at = cell::row_address(page::DISPLAYED, row);
     let end = end(screen, at);
     if end == 0 {
-        return n;
+        return 0;
     }
     let lead = lead(screen, at);
-    put_head(out, n, from, to, row as usize);
-    let m = put_codes(out, n + 15, screen, at, lead, end);
-    put(out, m, &[0x0a]);
-    m + 1
+    put_head(out, from, to, row);
+    let n = 15 + put_codes(&mut out[15..], screen, at, lead, end);
+    out[n] = b'\n';
+    n + 1
 }
 
-// The lines of a run, from the top.
-pub fn put_lines(out: &mut [u8], n: usize, from: usize, to: usize, screen: &[u8]) -> usize
-    requires { (n + 1200 ≤ length out.old) × (length screen.now ≡ 960) }
-    ensures { Put out.old n (lines_of (run from to screen.now)) 1200 out.new result }
+// The lines of a run, from the top. Gives how many bytes they are.
+pub fn put_lines(out: &mut [u8], from: usize, to: usize, screen: &[u8; 960]) -> usize
+    requires { 1200 ≤ length out.old }
+    ensures { Put out.old (lines_of (run from to screen.now)) 1200 out.new result }
 {
-    let mut m = n;
-    let mut row: u8 = 0;
-    while row < 15 {
-        m = put_row_line(out, m, from, to, screen, row + 1);
-        row += 1;
+    let mut n = 0;
+    for row in 1..=15 {
+        n += put_row_line(&mut out[n..], from, to, screen, Row(row));
     }
-    m
+    n
 }
 
 // The line of a refusal: its frame, and the paper's number.
-pub fn put_refused(out: &mut [u8], n: usize, frame: usize, number: usize)
-    requires { n + 16 ≤ length out.old }
-    ensures { out.new ≡ over out.old n (refused_of frame number) }
+pub fn put_refused(out: &mut [u8], frame: usize, number: usize)
+    requires { 16 ≤ length out.old }
+    ensures { out.new ≡ over out.old 0 (refused_of frame number) }
 {
-    put(out, n, b"refused ");
-    put_frame(out, n + 8, frame);
-    let text = [digit(number), 0x0a];
-    put(out, n + 14, &text);
+    facts::copy(out, b"refused ");
+    facts::copy(&mut out[8..], &frame_text(frame));
+    facts::copy(&mut out[14..], &[digit(number), b'\n']);
 }
 
 // The line before all others.
-pub fn put_header(out: &mut [u8], n: usize)
-    requires { n + 18 ≤ length out.old }
-    ensures { out.new ≡ over out.old n header }
+pub fn put_header(out: &mut [u8])
+    requires { 18 ≤ length out.old }
+    ensures { out.new ≡ over out.old 0 header }
 {
-    put(out, n, b"from to row codes\n");
+    facts::copy(out, b"from to row codes\n");
 }

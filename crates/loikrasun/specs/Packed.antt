@@ -5,13 +5,10 @@ use Rattle.std.specs.Prelude.{ℕ, ◌+◌, ◌*◌, ◌/◌, ◌%◌, List, eqb
 use Rattle.facts.specs.Choice.{pick}
 use Rattle.facts.specs.Over.{over}
 use Rattle.wire.specs.declared.Line.{Line}
-use Rattle.wire.specs.declared.Written.{Written}
-use Rattle.wire.specs.Numbers.{number_of_line, value_of_line, number_of_written, value_of_written}
+use Rattle.wire.specs.Numbers.{number_of_line, value_of_line}
 use Rattle.wire.specs.Written as written
 use Rattle.standing.specs.Calls.{Buffers, three, Given, gives, Outcome}
 use Rattle.desk.specs.Looks.{view_of, view_number_of}
-use Rattle.writer.specs.declared.Answer.{Answer}
-use Rattle.writer.specs.Write.{number_of_tape, value_of_tape}
 
 -- one number for two: the paper's number times 65,536, plus the value
 unfoldable pub packed_of : Given → ℕ
@@ -24,15 +21,9 @@ number_in packed = packed / 65536
 abbrev pub value_in : ℕ → ℕ
 value_in packed = packed % 65536
 
--- what is given for a frame line read, for one written, and for a tape
+-- what is given for a frame line read
 abbrev pub given_line : Line → Given
 given_line line = gives (number_of_line line) (value_of_line line)
-
-abbrev pub given_written : Written → Given
-given_written w = gives (number_of_written w) (value_of_written w)
-
-abbrev pub given_tape : Answer → Given
-given_tape r = gives (number_of_tape r) (value_of_tape r)
 
 -- what a call that is lent desk, log and tray gives and leaves
 pub record Ended : Type 0 where

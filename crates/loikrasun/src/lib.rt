@@ -2,45 +2,33 @@
 // As in `desk`, nothing is asked of the caller, and a refusal leaves every lent byte alone.
 #![tactic(auto)]
 
-ghost use Rattle.std.specs.Prelude.{◌≡◌};
+ghost use Rattle.std.specs.Prelude.{◌≡◌, ℕ, MatchResult};
 ghost use Rattle.wire.specs.Line.{line_at};
 ghost use Rattle.wire.specs.Written.{write_line_of};
 ghost use Rattle.standing.specs.Calls.{gives, open_of, take_of, select_of, back_of};
 ghost use Rattle.replay.specs.Captions.{caption_decoder};
-ghost use Rattle.desk.specs.Numbers.{given};
 ghost use Rattle.desk.specs.Looks.{row_of};
 ghost use Rattle.writer.specs.Write.{write_tape_of};
-ghost use Rattle.loikrasun.specs.Packed.{packed_of, given_written, given_line, given_tape, ended, ended_of, filled, written_of, viewed_of};
+ghost use Rattle.loikrasun.specs.Packed.{packed_of, given_line, ended, ended_of, filled, written_of, viewed_of};
 
-use desk::Answer;
-use wire::{Line, Written};
+use wire::Line;
 
 // The paper's number times 65,536, plus the value.
+#[tactic(auto, unfolding(crate::specs::Packed::packed_of))]
 fn pack(number: u16, value: u16) -> u32
     ensures { result ≡ packed_of (gives number value) }
 {
     number as u32 * 65536 + value as u32
 }
 
-fn pack_answer(answer: Answer) -> u32
-    ensures { result ≡ packed_of (given answer) }
+// A value, or the paper's number of a refusal.
+fn pack_answer<E: Into<u16>>(answer: Result<u16, E>) -> u32
+    ensures { MatchResult answer (λ value. result ≡ packed_of (gives 0 value))
+        (λ refusal. (number : ℕ) × E.converts refusal number × (result ≡ packed_of (gives number 0))) }
 {
     match answer {
-        Answer::Done(value) => pack(0, value),
-        Answer::WrongLength => pack(1, 0),
-        Answer::NoSuch => pack(2, 0),
-        Answer::Full => pack(3, 0),
-        Answer::TooFar => pack(4, 0),
-        Answer::Invalid => pack(6, 0),
-    }
-}
-
-fn pack_written(written: Written) -> u32
-    ensures { result ≡ packed_of (given_written written) }
-{
-    match written {
-        Written::Done => pack(0, 0),
-        Written::WrongLength => pack(1, 0),
+        Ok(value) => pack(0, value),
+        Err(refusal) => pack(refusal.into(), 0),
     }
 }
 
@@ -51,18 +39,6 @@ fn pack_line(line: Line) -> u32
         Line::Pair(first, second) => pack(0, first as u16 * 256 + second as u16),
         Line::End => pack(0, 0),
         Line::Bad => pack(5, 0),
-    }
-}
-
-fn pack_tape(answer: writer::Answer) -> u32
-    ensures { result ≡ packed_of (given_tape answer) }
-{
-    match answer {
-        writer::Answer::Done(value) => pack(0, value),
-        writer::Answer::WrongLength => pack(1, 0),
-        writer::Answer::NoSuch => pack(2, 0),
-        writer::Answer::Invalid => pack(6, 0),
-        writer::Answer::NotWritable => pack(7, 0),
     }
 }
 
@@ -110,17 +86,17 @@ pub fn loikrasun_row(desk: &[u8], row: u8) -> u32
 pub fn loikrasun_view(desk: &[u8], out: &mut [u8]) -> u32
     ensures { filled result out.new ≡ viewed_of desk.now out.old }
 {
-    if out.len() == 960 {
-        facts::copy(out, desk::view(desk));
-        return pack_answer(desk::view_number(desk));
+    if out.len() != 960 {
+        return pack_answer(Err(desk::Refusal::WrongLength));
     }
-    pack(1, 0)
+    facts::copy(out, desk::view(desk));
+    pack_answer(desk::view_number(desk))
 }
 
 pub fn loikrasun_line_write(out: &mut [u8], first: u8, second: u8) -> u32
     ensures { filled result out.new ≡ written_of (write_line_of out.old first second) }
 {
-    pack_written(wire::write_line(out, first, second))
+    pack_answer(wire::write_line(out, first, second).map(|()| 0))
 }
 
 // The pair of the reel's first line; an empty reel has none and gives 0.
@@ -134,5 +110,5 @@ pub fn loikrasun_line_read(reel: &[u8]) -> u32
 pub fn loikrasun_tape(memory: &[u8], channel: u8, out: &mut [u8]) -> u32
     ensures { filled result out.new ≡ written_of (write_tape_of memory.now channel out.old) }
 {
-    pack_tape(writer::write_tape(memory, channel, out))
+    pack_answer(writer::write_tape(memory, channel, out))
 }

@@ -1,6 +1,6 @@
 -- How many cells of a row are filled: counted byte by byte, none where its bytes are 0, and as many in a list that is read from further on. Assumes nothing.
 use mathlib.Core.Path.{◌≡◌, refl, ap, sym, ◌∙◌}
-use mathlib.Core.Bool.{Bool, true, false, not, ◌&&◌}
+use mathlib.Core.Bool.{Bool, true}
 use mathlib.Core.List.{List}
 use Prim.Native.Nat.{ℕ, zero, suc, ◌+◌, ◌*◌, ◌/◌, ◌%◌, ◌≤◌}
 use native.Mathlib.Nat.{add-zero}
@@ -27,12 +27,6 @@ filled_from-drop d from at zero = refl
 filled_from-drop d from at (suc n) =
     let f : from + (at + n * 2) ≡ from + at + n * 2 = omega arith in
     λ i. filled_from-drop d from at n i + filled_of ((get_or-drop from d (at + n * 2) 0 ∙ ap (λ (k : ℕ). get_or d k 0) f) i)
-
--- the test as code joins it
-pub pick_code : (even none : Bool) → pick {A = ℕ} (even && not none) 1 0 ≡ pick even (pick none 0 1) 0
-pick_code true true = refl
-pick_code true false = refl
-pick_code false none = refl
 
 -- one turn of a loop over the bytes of a row: byte i is the code of cell i / 2, or a pen
 pub filled_from_byte : (d : List ℕ) (at i : ℕ) {sum more : ℕ} → sum ≡ filled_from d at ((i + 1) / 2) → more ≡ pick (eqb (i % 2) 0) (filled_of (get_or d (at + i) 0)) 0

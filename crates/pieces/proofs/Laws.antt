@@ -2,36 +2,41 @@
 use mathlib.Core.Path.{◌≡◌, refl, ap, sym, subst, ◌∙◌}
 use mathlib.Core.Bool.{Bool, true, false}
 use mathlib.Core.List.{List, [], ◌++◌, append_assoc}
-use Prim.Native.Nat.{ℕ, zero, suc, ◌+◌, ◌<◌, ◌≤◌}
+use Prim.Native.Nat.{ℕ, zero, suc, ◌+◌, ◌-◌, ◌<◌, ◌≤◌}
 use native.Mathlib.Omega.{arith}
-use lib.Dec.{leb, ltb}
+use lib.Dec.{leb}
 use lib.ListN.{length, take, length-append}
 use lib.Seq.{length-take-le}
-use borrow.Author.Tests.{ltb-true, ltb-false, lt-ltb, leb-true}
+use borrow.Rule.Slice.PartMut.{put_mid}
+use borrow.Author.Tests.{leb-true}
 use Rattle.facts.specs.Choice.{pick}
-use Rattle.facts.specs.Over.{over}
+use Rattle.facts.specs.Over.{over, part}
 use Rattle.facts.proofs.Choice.{pick_cases, and_left, and_right}
+use Rattle.facts.proofs.Tail.{over_tail}
 use Rattle.facts.proofs.Over.{length-over, over_nil, front_over, over_then}
 use Rattle.lines.specs.Line.{Put}
 use Rattle.runs.specs.Register.{register_of}
-use Rattle.walk.specs.Walk.{Place, at_end, start_of, room, Fit, steps_of, step_of, step_text_of}
+use Rattle.walk.specs.declared.Stage.{Stage}
+use Rattle.walk.specs.Stage.{is_live}
+use Rattle.walk.specs.Walk.{Place, start_of, room, Fit, steps_of, step_of, step_text_of}
 use Rattle.pieces.specs.Pieces.{buffer, is_on, Printed, printed, print_from, piece_of, Handed, handed, next_piece_of, pieces_from, pieces_of, joined}
+use Rattle.walk.proofs.Stages.{no_stages}
 use Rattle.walk.proofs.Laws.{rest_of, rest_none, rest_start}
 use Rattle.walk.proofs.LawsOfSteps.{start_fit, step_rest, step_fit, step_on}
 
 -- where a step more is made, all is not given yet, and there is room for its output
-pub is_on_live : (stage n : ℕ) → is_on stage n ≡ true → stage < at_end
+pub is_on_live : (stage : Stage) (n : ℕ) → is_on stage n ≡ true → is_live stage ≡ true
 unfolding is_on
-is_on_live stage n t = ltb-true stage at_end (and_right (leb (n + room) buffer) (ltb stage at_end) t)
+is_on_live stage n t = and_right (leb (n + room) buffer) (is_live stage) t
 
-pub is_on-room : (stage n : ℕ) → is_on stage n ≡ true → n + room ≤ buffer
+pub is_on-room : (stage : Stage) (n : ℕ) → is_on stage n ≡ true → n + room ≤ buffer
 unfolding is_on
-is_on-room stage n t = leb-true (n + room) buffer (and_left (leb (n + room) buffer) (ltb stage at_end) t)
+is_on-room stage n t = leb-true (n + room) buffer (and_left (leb (n + room) buffer) (is_live stage) t)
 
 -- at the front of the buffer there is room, so that a piece is not empty handed while there is something to give
-is_on_front : (stage : ℕ) → stage < at_end → is_on stage 0 ≡ true
+is_on_front : (stage : Stage) → is_live stage ≡ true → is_on stage 0 ≡ true
 unfolding is_on
-is_on_front stage h = simp (lt-ltb stage at_end h)
+is_on_front stage h = h
 
 -- Step after step.
 
@@ -95,18 +100,21 @@ module _ {p₀ p : Place} (reel : List ℕ) {out₀ out : List ℕ} (n : ℕ) (g
   at_front : {t : Bool} → is_on p.walk.stage n ≡ t → is_on p.walk.stage (length (take n out)) ≡ t
   at_front e = ap (is_on p.walk.stage) front ∙ e
 
-  pub going_more : is_on p.walk.stage n ≡ true → {q : Place} {left : List ℕ} {m : ℕ} → q ≡ step_of p reel → Put out n (step_text_of p reel) room left m → Going p₀ reel out₀ q m left
+  pub going_more : is_on p.walk.stage n ≡ true → {q : Place} {left : List ℕ} {m : ℕ} → q ≡ step_of p reel → Put (part out n (buffer - n)) (step_text_of p reel) room left m → Going p₀ reel out₀ q (n + m) (put_mid n (buffer - n) out left)
   going_more t {q} {left} {m} e put =
       let text = step_text_of p reel in
       let enough = is_on-room p.walk.stage n t in
       let small = put.room in
       let full = g.full in
-      let here : take m left ≡ take n out ++ text = (λ i. take (put.next i) (put.bytes i)) ∙ front_over out n text (omega arith) in
+      let tail : buffer - n ≡ length out - n = omega arith in
+      let whole : put_mid n (buffer - n) out left ≡ over out n text = rw tail (over_tail out n text (omega arith) (rw tail at put.bytes)) in
+      let next = ap (λ (k : ℕ). n + k) put.next in
+      let here : take (n + m) (put_mid n (buffer - n) out left) ≡ take n out ++ text = (λ i. take (next i) (whole i)) ∙ front_over out n text (omega arith) in
       record {
-        full = ap length put.bytes ∙ length-over out n text ∙ full;
+        full = ap length whole ∙ length-over out n text ∙ full;
         small = omega arith;
         fit = subst Fit (sym e) (step_fit p reel g.fit (is_on_live p.walk.stage n t));
-        bytes = over_then out₀ 0 (take n out) text n (omega (arith, front)) g.bytes put.bytes ∙ ap (over out₀ 0) (sym here);
+        bytes = over_then out₀ 0 (take n out) text n (omega (arith, front)) g.bytes whole ∙ ap (over out₀ 0) (sym here);
         piece = (λ i. print_from (steps_of (e i).walk) reel (here i) (e i)) ∙ sym (print_on reel (take n out) p g.fit (at_front t)) ∙ g.piece;
       }
 
@@ -132,7 +140,7 @@ module _ (p : Place) (reel : List ℕ) (f : Fit p) where
   pub piece_fit : Fit (piece_of p reel).place
   piece_fit = goes.fit
 
-  pub piece_on : p.walk.stage < at_end → steps_of (piece_of p reel).place.walk < steps_of p.walk
+  pub piece_on : is_live p.walk.stage ≡ true → steps_of (piece_of p reel).place.walk < steps_of p.walk
   unfolding piece_of
   piece_on live =
       let next = step_on p reel f live in
@@ -159,20 +167,20 @@ module _ (p : Place) (reel out : List ℕ) (f : Fit p) {q : Place} {m : ℕ} {le
   pub handed_fit : Fit q
   handed_fit = subst Fit (sym at) (piece_fit p reel f)
 
-  pub handed_on : p.walk.stage < at_end → steps_of q.walk < steps_of p.walk
+  pub handed_on : is_live p.walk.stage ≡ true → steps_of q.walk < steps_of p.walk
   handed_on live = omega (arith, piece_on p reel f live, ap (λ (x : Place). steps_of x.walk) at)
 
 -- "the program only reads and prints": the pieces in the order of the calls come to an end, and joined they are the register.
 
 pieces_rest : (calls : ℕ) (reel : List ℕ) (p : Place) → Fit p → steps_of p.walk ≤ calls → joined (pieces_from calls reel p) ≡ rest_of p reel
 unfolding pieces_from
-pieces_rest zero reel p f h = sym (rest_none p reel (omega arith))
+pieces_rest zero reel p f h = sym (rest_none p reel (no_stages p.walk.stage (omega arith)))
 pieces_rest (suc calls) reel p f h =
-    pick_cases (λ (l : List (List ℕ)). joined l ≡ rest_of p reel) (ltb p.walk.stage at_end)
+    pick_cases (λ (l : List (List ℕ)). joined l ≡ rest_of p reel) (is_live p.walk.stage)
     (λ t.
-    let on = piece_on p reel f (ltb-true p.walk.stage at_end t) in
+    let on = piece_on p reel f t in
     ap (λ (l : List ℕ). (piece_of p reel).text ++ l) (pieces_rest calls reel (piece_of p reel).place (piece_fit p reel f) (omega arith)) ∙ piece_rest p reel f)
-    (λ t. sym (rest_none p reel (ltb-false p.walk.stage at_end t)))
+    (λ t. sym (rest_none p reel t))
 
 pub pieces_register_of : (reel : List ℕ) → joined (pieces_of reel) ≡ register_of reel
 unfolding pieces_of

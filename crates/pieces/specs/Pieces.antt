@@ -1,18 +1,20 @@
 -- The register in pieces: what one call puts into a lent buffer, and the pieces of a whole register in the order of the calls.
 -- Paper 01, "Reel and register": "the program only reads and prints".
 -- Assumes nothing.
-use Rattle.std.specs.Prelude.{Bool, ◌&&◌, List, [], ◌∷◌, ◌++◌, ℕ, zero, suc, ◌+◌, leb, ltb, length}
+use Rattle.std.specs.Prelude.{Bool, ◌&&◌, List, [], ◌∷◌, ◌++◌, ℕ, zero, suc, ◌+◌, leb, length}
 use Rattle.facts.specs.Choice.{pick}
 use Rattle.facts.specs.Over.{over}
-use Rattle.walk.specs.Walk.{Place, at_end, start_of, room, steps_of, step_of, step_text_of}
+use Rattle.walk.specs.declared.Stage.{Stage}
+use Rattle.walk.specs.Stage.{is_live}
+use Rattle.walk.specs.Walk.{Place, start_of, room, steps_of, step_of, step_text_of}
 
 -- the bytes of the buffer that a piece is put into
 abbrev pub buffer : ℕ
 buffer = 65536
 
 -- whether one step more is made behind n bytes: there is room for its output, and all is not given yet
-unfoldable pub is_on : ℕ → ℕ → Bool
-is_on stage n = leb (n + room) buffer && ltb stage at_end
+unfoldable pub is_on : Stage → ℕ → Bool
+is_on stage n = leb (n + room) buffer && is_live stage
 
 -- what some steps have printed, and where the walk stands then
 pub record Printed : Type 0 where
@@ -49,7 +51,7 @@ unfoldable pub pieces_from : ℕ → List ℕ → Place → List (List ℕ)
 pieces_from zero reel p = []
 pieces_from (suc calls) reel p =
     let piece = piece_of p reel in
-    pick (ltb p.walk.stage at_end) (piece.text ∷ pieces_from calls reel piece.place) []
+    pick (is_live p.walk.stage) (piece.text ∷ pieces_from calls reel piece.place) []
 
 unfoldable pub pieces_of : List ℕ → List (List ℕ)
 pieces_of reel = pieces_from (steps_of start_of.walk) reel start_of

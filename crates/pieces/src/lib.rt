@@ -1,13 +1,14 @@
 // The register of a reel in pieces: each call reads on in the reel and prints the next piece into a lent buffer.
 #![tactic(auto)]
 
-ghost use Rattle.std.specs.Prelude.{◌≡◌, ◌+◌, ◌≤◌, ◌<◌, length};
+ghost use Rattle.std.specs.Prelude.{◌≡◌, true, ◌≤◌, length};
 ghost use Rattle.lines.specs.Line.{Put};
 ghost use Rattle.runs.specs.Frames.{most, next_of};
-ghost use Rattle.walk.specs.Walk.{place, at_end, Fit, room, step_of, step_text_of};
+ghost use Rattle.walk.specs.Stage.{is_live};
+ghost use Rattle.walk.specs.Walk.{place, Fit, room, step_of, step_text_of};
 ghost use Rattle.pieces.specs.Pieces.{is_on, handed, next_piece_of};
 
-use walk::{END, FRAMES, HEADER, MOST, Piece, Walk};
+use walk::{MOST, Piece, Stage, Walk};
 use wire::Line;
 
 // The bytes of the buffer that a piece is put into.
@@ -27,61 +28,40 @@ fn next_line(reel: &[u8], frame: usize) -> Line
     Line::End
 }
 
-// One step behind the first `n` bytes of the buffer: the header, one frame, or the end.
-fn step(w: Walk, reel: &[u8], cells: &mut [u8], held: &mut [u8], out: &mut [u8], n: usize) -> Piece
-    requires { Fit (place w cells.old held.old) × (w.stage < at_end) × (n + room ≤ length out.old) }
+// One step: the header, one frame, or the end.
+fn step(w: Walk, reel: &[u8], cells: &mut [u8; 1920], held: &mut [u8; 960], out: &mut [u8]) -> Piece
+    requires { Fit (place w cells.old held.old) × (is_live w.stage ≡ true) × (room ≤ length out.old) }
     ensures { (place result.walk cells.new held.new ≡ step_of (place w cells.old held.old) reel.now)
-        × Put out.old n (step_text_of (place w cells.old held.old) reel.now) room out.new result.n }
+        × Put out.old (step_text_of (place w cells.old held.old) reel.now) room out.new result.n }
 {
-    let frame = w.frame;
-    if w.stage == HEADER {
-        let since = w.since;
-        let state = w.state;
-        lines::put_header(out, n);
-        return Piece {
-            walk: Walk {
-                stage: FRAMES,
-                frame,
-                since,
-                state,
-            },
-            n: n + 18,
-        };
-    }
-    let line = next_line(reel, frame);
-    match line {
-        Line::Pair(first, second) => walk::show(w, cells, held, out, n, first, second),
-        Line::End => walk::finish(w, reel.len(), held, out, n),
-        Line::Bad => walk::finish(w, reel.len(), held, out, n),
+    match w.stage {
+        Stage::Header => {
+            lines::put_header(out);
+            Piece {
+                walk: Walk {
+                    stage: Stage::Frames,
+                    ..w
+                },
+                n: 18,
+            }
+        }
+        Stage::Frames | Stage::End => match next_line(reel, w.frame) {
+            Line::Pair(first, second) => walk::show(w, cells, held, out, first, second),
+            Line::End | Line::Bad => walk::finish(w, reel.len(), held, out),
+        },
     }
 }
 
-// Whether there is room for one step more, and all is not given yet.
-fn is_on(stage: u8, n: usize) -> bool
+// Whether there is room for one step more behind `n` bytes, and all is not given yet.
+#[tactic(auto, unfolding(crate::specs::Pieces::is_on))]
+fn is_on(stage: Stage, n: usize) -> bool
     requires { n ≤ 65536 }
     ensures { result ≡ is_on stage n }
 {
-    (n + ROOM <= BUFFER) & (stage < END)
+    (n + ROOM <= BUFFER) & stage.is_live()
 }
 
-// Step after step into a buffer, while there is room.
-fn fill(w: Walk, reel: &[u8], cells: &mut [u8], held: &mut [u8], out: &mut [u8]) -> Piece
-    requires { Fit (place w cells.old held.old) × (length out.old ≡ 65536) }
-    ensures { (handed (place result.walk cells.new held.new) result.n out.new
-        ≡ next_piece_of (place w cells.old held.old) reel.now out.old)
-        × (result.n ≤ 65536) × (length out.new ≡ 65536) }
-{
-    let mut at = w;
-    let mut n = 0;
-    while is_on(at.stage, n) {
-        let p = step(at, reel, cells, held, out, n);
-        at = p.walk;
-        n = p.n;
-    }
-    Piece { walk: at, n }
-}
-
-// The next piece of the register, as much as there is room for. A walk at `END` has given all.
+// The next piece of the register: step after step, while there is room. A walk at its end has given all.
 pub fn next_piece(
     w: Walk,
     reel: &[u8],
@@ -94,5 +74,12 @@ pub fn next_piece(
         ≡ next_piece_of (place w cells.old held.old) reel.now out.old)
         × (result.n ≤ 65536) × (length out.new ≡ 65536) }
 {
-    fill(w, reel, cells, held, out)
+    let mut walk = w;
+    let mut n = 0;
+    while is_on(walk.stage, n) {
+        let piece = step(walk, reel, cells, held, &mut out[n..]);
+        walk = piece.walk;
+        n += piece.n;
+    }
+    Piece { walk, n }
 }

@@ -24,10 +24,12 @@ fn read_cursor(bytes: &[u8], at: usize) -> Cursor
 fn low_first(low: u8, high: u8) -> u16
     ensures { result ≡ low_first_of low high }
 {
-    (low as u16) + (high as u16) * 256
+    u16::from_le_bytes([low, high])
 }
 
-// The state, from bytes 0 to 18.
+// The state, from bytes 0 to 18. What it gives stays as it is: numbers, and no Result, since the clause `state_of` says what any 1,984 bytes
+// give; `valid::is_valid_state` refuses those of no desk. The clause on the length stays as it is: a record is a slice that is lent or a part
+// of one, and `&[u8; 1984]` would have each caller convert it, by a call that can fail.
 pub fn read_state(bytes: &[u8]) -> State
     requires { length bytes.now ≡ 1984 }
     ensures { result ≡ state_of bytes.now }
@@ -65,9 +67,10 @@ fn write_fields(bytes: &mut [u8], state: State)
     ensures { bytes.new ≡ over bytes.old 0 (fields_of state) }
 {
     let mode = state.mode;
+    let [low, high] = state.acts.to_le_bytes();
     let fields = [
-        (state.acts % 256) as u8,
-        (state.acts / 256) as u8,
+        low,
+        high,
         state.selected,
         state.stream,
         mode.style,
@@ -94,10 +97,8 @@ fn write_counts(bytes: &mut [u8])
     requires { length bytes.old ≡ 1984 }
     ensures { bytes.new ≡ over bytes.old 19 (counts_of (drop 64 bytes.old)) }
 {
-    let mut r: usize = 0;
-    while r < 30 {
+    for r in 0..30 {
         bytes[19 + r] = page::count_cells(bytes, 64 + r * 64);
-        r += 1;
     }
 }
 

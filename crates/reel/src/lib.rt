@@ -16,41 +16,43 @@ pub struct Reader<'a> {
 }
 
 // Where the line behind a place starts: past a frame line; at the reel's end and on a bad line the place stays.
+#[tactic(auto, unfolding(crate::specs::Walk::after_of))]
 pub fn after(reel: &[u8], at: usize) -> usize
     ensures { result ≡ after_of reel.now at }
 {
     match wire::read_line(reel, at) {
         Line::Pair(_, _) => at + 5,
-        Line::End => at,
-        Line::Bad => at,
+        Line::End | Line::Bad => at,
     }
-}
-
-// A reader stands at the first line.
-pub fn new<'a>(reel: &'a [u8]) -> Reader<'a>
-    ensures { (result.reel ≡ reel.entry) × (result.at ≡ 0) }
-{
-    Reader { reel, at: 0 }
-}
-
-// What stands where the reader is: a pair, the reel's end, or what is no frame line.
-pub fn next<'a>(r: Reader<'a>) -> Line
-    ensures { (result ≡ line_at r.entry.reel.now r.entry.at) × (reading_of result ≡ read_line_of r.entry.reel.now r.entry.at) }
-{
-    wire::read_line(r.reel, r.at)
-}
-
-// The reader behind what stands where it is: past a pair; at the end and on a bad line it stays.
-pub fn moved<'a>(r: Reader<'a>) -> Reader<'a>
-    ensures { (result.reel ≡ r.entry.reel) × (result.at ≡ after_of r.entry.reel.now r.entry.at) }
-{
-    let at = after(r.reel, r.at);
-    Reader { reel: r.reel, at }
 }
 
 // What a reader at a place of a reel gives, for callers that keep the place and hold no reader.
 pub fn line(reel: &[u8], at: usize) -> Line
     ensures { result ≡ line_at reel.now at }
 {
-    next(Reader { reel, at })
+    Reader { reel, at }.next()
+}
+
+impl<'a> Reader<'a> {
+    // A reader stands at the first line.
+    pub fn new(reel: &'a [u8]) -> Reader<'a>
+        ensures { (result.reel ≡ reel.entry) × (result.at ≡ 0) }
+    {
+        Reader { reel, at: 0 }
+    }
+
+    // What stands where the reader is: a pair, the reel's end, or what is no frame line.
+    pub fn next(self) -> Line
+        ensures { (result ≡ line_at self.entry.reel.now self.entry.at) × (reading_of result ≡ read_line_of self.entry.reel.now self.entry.at) }
+    {
+        wire::read_line(self.reel, self.at)
+    }
+
+    // The reader behind what stands where it is: past a pair; at the end and on a bad line it stays.
+    pub fn moved(self) -> Reader<'a>
+        ensures { (result.reel ≡ self.entry.reel) × (result.at ≡ after_of self.entry.reel.now self.entry.at) }
+    {
+        let at = after(self.reel, self.at);
+        Reader { at, ..self }
+    }
 }

@@ -5,34 +5,25 @@
 mod note;
 mod register;
 
-ghost use Rattle.std.specs.Prelude.{◌≤◌, length};
-
-// The register of the reel behind a brace. Behind the last reel there is none, and both places are the end.
 // Of a reel 16,000 lines and one byte are kept: what follows them changes no register.
-fn print_reel(out: &impl Print, text: &[u8], from: usize, to: usize)
-    requires { (from ≤ to) × (to ≤ length text.now) }
-{
-    if from == to {
-        return;
-    }
+fn print_reel(out: &impl Print, text: &[u8]) {
     let mut reel = [0u8; 80001];
-    let n = note::write(&mut reel, text, from + 1, to);
-    register::print_register(out, &reel[0..n]);
+    let n = note::write(&mut reel, text);
+    register::print_register(out, &reel[..n]);
 }
 
 fn play(out: &impl Print, script: &[u8]) {
-    let mut at = 0;
-    while at < script.len() {
-        let open = note::find(script, at, script.len(), b'{');
-        register::print(out, &script[at..open]);
-        let close = note::find(script, open, script.len(), b'}');
-        print_reel(out, script, open, close);
-        at = close + 1;
+    for piece in script.split_inclusive(|b| *b == b'}') {
+        let (copied, reel) = note::cut(piece, b'{', b'}');
+        input::print(out, copied);
+        if let Some(reel) = reel {
+            print_reel(out, reel);
+        }
     }
 }
 
 fn main(rt: HostRuntime) {
     let mut script = [0u8; 65536];
-    let n = input::read_all(&rt, &rt.stderr(), &mut script, b"cannot read the script").n;
+    let n = input::read_what_comes(&rt, &rt.stderr(), &mut script, b"cannot read the script");
     play(&rt, &script[..n]);
 }

@@ -16,6 +16,8 @@ use Rattle.standing.specs.Acts.{Act, pair, select, is_channel, is_formed, act_of
 use Rattle.standing.specs.Decoder.{Lawful}
 use Rattle.standing.proofs.Within.{are_formed_at}
 use Rattle.replay.specs.Captions.{step_of, count_of, caption_decoder}
+use Rattle.replay.specs.declared.Entry.{Entry}
+use Rattle.replay.specs.Entries.{entry}
 
 is_channel_low : (c : ℕ) → is_channel c ≡ true → 1 ≤ c
 unfolding is_channel
@@ -55,11 +57,19 @@ is_channel_is c = refl
 
 pub is_formed_pair : (kind x y : ℕ) → kind ≡ 1 → true ≡ is_formed kind x y
 unfolding is_formed
-is_formed_pair kind x y e = rw (eq-eqb kind 1 e)
+is_formed_pair kind x y e = rw e
 
-pub is_formed_other : (kind x y : ℕ) {ok : Bool} → (kind ≡ 1 → ⊥) → ok ≡ is_channel x → (eqb kind 2 && (ok && eqb y 0)) ≡ is_formed kind x y
+pub is_formed_select : (kind x y : ℕ) {ok : Bool} → kind ≡ 2 → ok ≡ is_channel x → (ok && eqb y 0) ≡ is_formed kind x y
 unfolding is_formed
-is_formed_other kind x y n e = rw (ne_eqb kind 1 n) (ap (λ (ok : Bool). eqb kind 2 && (ok && eqb y 0)) e)
+is_formed_select kind x y e same = rw e (ap (λ (ok : Bool). ok && eqb y 0) same)
+
+pub is_formed_neither : (kind x y : ℕ) → (kind ≡ 1 → ⊥) → (kind ≡ 2 → ⊥) → false ≡ is_formed kind x y
+unfolding is_formed
+is_formed_neither kind x y n m = rw (ne_eqb kind 1 n, ne_eqb kind 2 m)
+
+-- what is said of three bytes of the log is said of the entry that they are read as
+pub of_entry : {A : Type 0} (f : ℕ → ℕ → ℕ → A) (l : List ℕ) (n : ℕ) {e : Entry} → e ≡ at_act entry l n → f e.kind e.first e.second ≡ at_act f l n
+of_entry f l n p = ap (λ (e : Entry). f e.kind e.first e.second) p
 
 -- one act that is not well formed, and they are not all
 pub are_formed_broken : (l : List ℕ) (from count n : ℕ) → n < count → at_act is_formed l (from + n) ≡ false → false ≡ are_formed l from count

@@ -22,35 +22,38 @@ fn plain_in(row: Row) -> Cursor
 
 // Mark clear: the displayed memory is emptied, and the base row is 15. Mark set: the window moves where depth n does not fit at its base row.
 #[tactic(auto, unfolding(crate::specs::Rollup::opened_of))]
-fn opened(mut mode: Mode, cells: &mut [u8], n: u8) -> Mode
+fn opened(mode: Mode, cells: &mut [u8], n: u8) -> Mode
     requires { Sound (captions mode cells.old) × (n ≤ 4) }
     ensures { captions result cells.new ≡ opened_of (captions mode cells.old) n }
 {
     if mode.mark == 0 {
         page::empty_all(cells, page::DISPLAYED);
-        mode.roll = plain_in(Row(15));
-        return mode;
+        return Mode {
+            roll: plain_in(Row(15)),
+            ..mode
+        };
     }
-    let cursor = mode.roll;
-    placing::moved(mode, cells, window::lowered(cursor, n))
+    placing::moved(mode, cells, window::lowered(mode.roll, n))
 }
 
 // Roll-up with depth n: all but the window is emptied.
-fn framed(mut mode: Mode, cells: &mut [u8], n: u8) -> Mode
+#[tactic(auto, unfolding(crate::specs::Rollup::framed_of))]
+fn framed(mode: Mode, cells: &mut [u8], n: u8) -> Mode
     requires { Sound (captions mode cells.old) × (n ≤ mode.roll.row.0) }
     ensures { captions result cells.new ≡ framed_of (captions mode cells.old) n }
 {
-    let cursor = mode.roll;
-    let base = cursor.row;
     page::empty_all(cells, page::NON_DISPLAYED);
-    window::empty_outside(cells, page::DISPLAYED, base, n);
-    mode.style = ROLL_UP;
-    mode.text = 0;
-    mode.mark = 1;
-    mode.depth = n;
-    mode
+    window::empty_outside(cells, page::DISPLAYED, mode.roll.row, n);
+    Mode {
+        style: ROLL_UP,
+        text: 0,
+        mark: 1,
+        depth: n,
+        ..mode
+    }
 }
 
+#[tactic(auto, unfolding(crate::specs::Rollup::ru_of))]
 pub fn ru(mode: Mode, cells: &mut [u8], n: u8) -> Mode
     requires { Sound (captions mode cells.old) × (n ≤ 4) }
     ensures { captions result cells.new ≡ ru_of (captions mode cells.old) n }
@@ -60,17 +63,18 @@ pub fn ru(mode: Mode, cells: &mut [u8], n: u8) -> Mode
 }
 
 // In roll-up the window rolls; in any other style nothing happens.
-pub fn cr(mut mode: Mode, cells: &mut [u8]) -> Mode
+#[tactic(auto, unfolding(crate::specs::Rollup::cr_of))]
+pub fn cr(mode: Mode, cells: &mut [u8]) -> Mode
     requires { Sound (captions mode cells.old) }
     ensures { captions result cells.new ≡ cr_of (captions mode cells.old) }
 {
-    let style = mode.style;
-    if style == ROLL_UP {
-        let cursor = mode.roll;
-        let base = cursor.row;
-        window::roll(cells, page::DISPLAYED, base, mode.depth);
-        mode.roll = plain_in(base);
+    if mode.style != ROLL_UP {
         return mode;
     }
-    mode
+    let base = mode.roll.row;
+    window::roll(cells, page::DISPLAYED, base, mode.depth);
+    Mode {
+        roll: plain_in(base),
+        ..mode
+    }
 }

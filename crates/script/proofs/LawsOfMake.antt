@@ -1,17 +1,18 @@
 -- The whole script, from what its steps came to. Assumes nothing.
 use mathlib.Core.Path.{◌≡◌, refl, sym, ap}
-use mathlib.Core.Bool.{Bool, true, false, ◌&&◌}
 use mathlib.Core.List.{List}
 use Prim.Native.Nat.{ℕ, ◌*◌, ◌/◌, ◌%◌}
 use native.Mathlib.Omega.{arith}
-use lib.Dec.{eqb}
 use lib.ListN.{length, replicate}
-use Rattle.facts.proofs.Choice.{and_left, and_right}
+use borrow.Author.Tests.{eq-eqb, ne_eqb}
+use Rattle.std.specs.Prelude.{Option}
 use Rattle.facts.proofs.Over.{over_nil}
 use Rattle.wire.specs.Reel.{reel_of_raw}
 use Rattle.wire.proofs.LawsOfReel.{length-reel_of_raw}
 use Rattle.tape.specs.Programme.{programme_of}
 use Rattle.steps.specs.declared.Hand.{Hand}
+use Rattle.steps.specs.declared.Wrong.{Wrong}
+use Rattle.steps.specs.Wrong.{number_of_wrong, earliest_of}
 use Rattle.steps.specs.Take.{blank}
 use Rattle.script.specs.Script.{reached_of, show_last_of, made_of, script_reel_of}
 use Rattle.script.specs.Make.{outcome, make_of}
@@ -22,21 +23,21 @@ unfolding blank
 blank_is = refl
 
 module _ (script out : List ℕ) where
-  pub make_done : {kept : ℕ} {h : Hand} {screen left : List ℕ} → (eqb (length out) 80000 && eqb (length script % 40) 0) ≡ true → kept ≡ (reached_of script (length script / 40)).kept
-      → Goes (show_last_of (reached_of script (length script / 40)).last) h screen out left → outcome h.wrong kept h.earliest (h.frames * 5) left ≡ make_of script out
+  pub make_done : {kept : ℕ} {h : Hand} {wrong : Option Wrong} {screen left : List ℕ} → length out ≡ 80000 → length script % 40 ≡ 0 → kept ≡ (reached_of script (length script / 40)).kept
+      → Goes (show_last_of (reached_of script (length script / 40)).last) h wrong screen out left → outcome (number_of_wrong wrong) kept (earliest_of wrong) (h.frames * 5) left ≡ make_of script out
   unfolding make_of made_of script_reel_of
-  make_done {kept} {h} {screen} {left} t k g =
+  make_done {kept} {h} room whole k g =
       let w = show_last_of (reached_of script (length script / 40)).last in
       let count = length-reel_of_raw (programme_of w.to.cues) in
       let frames = g.stands.frames in
       let n : h.frames * 5 ≡ length (reel_of_raw (programme_of w.to.cues)) = omega arith in
-      rw (and_left (eqb (length out) 80000) (eqb (length script % 40) 0) t, and_right (eqb (length out) 80000) (eqb (length script % 40) 0) t)
+      rw (eq-eqb (length out) 80000 room, eq-eqb (length script % 40) 0 whole)
       (λ i. outcome (g.same i).wrong (k i) (g.same i).earliest (n i) (g.stands.lines i))
 
-  pub make_refused : (eqb (length out) 80000 && eqb (length script % 40) 0) ≡ false → outcome 1 0 0 0 out ≡ make_of script out
+  pub make_roomless : (length out ≡ 80000 → ⊥) → outcome 1 0 0 0 out ≡ make_of script out
+  unfolding make_of
+  make_roomless some = rw (ne_eqb (length out) 80000 some)
+
+  pub make_broken : length out ≡ 80000 → (length script % 40 ≡ 0 → ⊥) → outcome 1 0 0 0 out ≡ make_of script out
   unfolding make_of made_of script_reel_of
-  make_refused t = go (eqb (length out) 80000) refl
-    where
-      go : (b : Bool) → eqb (length out) 80000 ≡ b → outcome 1 0 0 0 out ≡ make_of script out
-      go true e = rw (e, rw e at t) (ap (outcome 1 0 0 0) (sym (over_nil out 0)))
-      go false e = rw e
+  make_broken room some = rw (eq-eqb (length out) 80000 room, ne_eqb (length script % 40) 0 some) (ap (outcome 1 0 0 0) (sym (over_nil out 0)))

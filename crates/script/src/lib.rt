@@ -1,152 +1,138 @@
 // The reel of a script: its steps one by one, up to the first that cannot be kept. The call asks nothing of its caller.
 #![tactic(auto)]
 
-ghost use Rattle.std.specs.Prelude.{◌≡◌, ◌+◌, ◌*◌, ◌/◌, ◌≤◌, ◌<◌, length};
-ghost use Rattle.steps.specs.Take.{blank};
+ghost use Rattle.std.specs.Prelude.{◌≡◌, List, ℕ, ◌+◌, ◌/◌, ◌≤◌, IfOk, length};
+ghost use Rattle.steps.specs.Take.{blank, Went};
+ghost use Rattle.steps.specs.Wrong.{number_of_wrong, earliest_of};
 ghost use Rattle.steps.specs.Hand.{Fit, Goes, Does};
 ghost use Rattle.script.specs.Step.{size, step_at};
-ghost use Rattle.script.specs.Script.{step_of, on_of, kept_of, reached_of, show_last_of};
+ghost use Rattle.script.specs.Script.{step_of, reached_of, show_last_of};
 ghost use Rattle.script.specs.Make.{outcome, make_of};
 
-use steps::{Hand, cells, cues};
+use steps::{Hand, Wrong, cells, cues};
+use tape::Channel;
 
-// What a script came to: 0, or what is wrong; how many steps were kept, and the earliest frame that could have been; how many bytes the reel has.
-#[derive(Clone, Copy)]
+// What a script came to: how many steps were kept, how many bytes their reel has, and why it stops there, if it does.
+#[derive(Clone, Copy, Debug, PartialEq, Eq)]
 pub struct Made {
-    pub wrong: u8,
     pub kept: usize,
-    pub earliest: usize,
     pub n: usize,
+    pub wrong: Option<Wrong>,
 }
 
-// The steps that were kept, and what is in hand behind the last.
-#[derive(Clone, Copy)]
+// The steps that were kept, what is in hand behind the last, and what is wrong with the next, if there is one that is wrong.
+#[derive(Clone, Copy, Debug, PartialEq, Eq)]
 pub struct Reached {
     pub kept: usize,
     pub hand: Hand,
-}
-
-// Two bytes, the low one first.
-fn number(low: u8, high: u8) -> usize
-    ensures { (result ≡ low + high * 256) × (result < 65536) }
-{
-    low as usize + high as usize * 256
+    pub wrong: Option<Wrong>,
 }
 
 // The step from byte `at` on.
-fn step(hand: Hand, screen: &mut [u8], out: &mut [u8], script: &[u8], at: usize) -> Hand
+fn step(
+    hand: Hand,
+    screen: &mut [u8],
+    out: &mut [u8],
+    script: &[u8],
+    at: usize,
+) -> Result<Hand, Wrong>
     requires { Fit hand × (length screen.old ≡ 960) × (length out.old ≡ 80000) × (at + 40 ≤ length script.now) }
-    ensures { Fit result × Does (λ w. step_of w.to (step_at script.now at)) hand screen.old out.old result screen.new out.new }
+    ensures fit { IfOk result (λ next. Fit next) }
+    ensures does { Does (λ t. step_of t (step_at script.now at)) hand screen.old out.old result screen.new out.new }
 {
-    let kind = script[at];
-    let count = script[at + 4];
-    if (kind == 1) & (count <= 32) {
-        let from = at + 8;
-        let end = from + count as usize;
-        return cells::put(
-            hand,
-            screen,
-            script[at + 1],
-            script[at + 2],
-            script[at + 3],
-            &script[from..end],
-        );
+    let count = script[at + 4] as usize;
+    let number = u16::from_le_bytes([script[at + 1], script[at + 2]]) as usize;
+    match script[at] {
+        1 if count <= 32 => {
+            let from = at + 8;
+            cells::put(
+                hand,
+                screen,
+                script[at + 1],
+                script[at + 2],
+                script[at + 3],
+                &script[from..from + count],
+            )
+        }
+        2 => cues::show(hand, screen, out, number),
+        3 => cues::clear(hand, out, number),
+        4 => cues::wait(hand, out, number),
+        5 => hand.switch(number),
+        _ => Err(Wrong::Invalid),
     }
-    let number = number(script[at + 1], script[at + 2]);
-    if kind == 2 {
-        return cues::show(hand, screen, out, number);
+}
+
+// All steps up to the first that is wrong, from an empty screen on channel 1.
+fn reach(script: &[u8], screen: &mut [u8], out: &mut [u8]) -> Reached
+    requires { (screen.old ≡ blank) × (length out.old ≡ 80000) }
+    ensures fit { Fit result.hand }
+    ensures kept { result.kept ≡ (reached_of script.now (length script.now / size)).kept }
+    ensures goes { Goes (reached_of script.now (length script.now / size)).last result.hand result.wrong screen.new out.old out.new }
+{
+    let count = script.len() / 40;
+    let mut hand = Hand {
+        channel: Channel::One,
+        drawn: false,
+        frames: 0,
+    };
+    for kept in 0..count {
+        match step(hand, screen, out, script, kept * 40) {
+            Ok(next) => hand = next,
+            Err(wrong) => {
+                return Reached {
+                    kept,
+                    hand,
+                    wrong: Some(wrong),
+                };
+            }
+        }
     }
-    if kind == 3 {
-        return cues::clear(hand, out, number);
+    Reached {
+        kept: count,
+        hand,
+        wrong: None,
     }
-    if kind == 4 {
-        return cues::wait(hand, out, number);
-    }
-    if kind == 5 {
-        return hand.switch(number);
-    }
-    hand.stopped(6, 0)
 }
 
 // A screen still to be shown at the end is shown.
-fn show_last(hand: Hand, screen: &mut [u8], out: &mut [u8]) -> Hand
-    requires { Fit hand × (length screen.old ≡ 960) × (length out.old ≡ 80000) }
-    ensures { Fit result × Does show_last_of hand screen.old out.old result screen.new out.new }
+fn show_last(reached: Reached, screen: &mut [u8], out: &mut [u8]) -> Reached
+    requires { Fit reached.hand × (length screen.old ≡ 960) × (length out.old ≡ 80000) }
+    ensures fit { Fit result.hand }
+    ensures kept { result.kept ≡ reached.kept }
+    ensures goes { (w : Went) (first : List ℕ) → Goes w reached.hand reached.wrong screen.old first out.old
+        → Goes (show_last_of w) result.hand result.wrong screen.new first out.new }
 {
-    if (hand.wrong == 0) & hand.drawn {
-        return cues::show(hand, screen, out, 0);
-    }
-    hand
-}
-
-// One step more, unless one was wrong, and how many were kept then.
-fn more(reached: Reached, screen: &mut [u8], out: &mut [u8], script: &[u8], at: usize) -> Reached
-    requires { Fit reached.hand × (length screen.old ≡ 960) × (length out.old ≡ 80000) × (at + 40 ≤ length script.now) × (reached.kept ≤ at) }
-    ensures { Fit result.hand × (result.kept ≡ kept_of reached.kept result.hand.wrong)
-        × Does (λ w. on_of w (step_at script.now at)) reached.hand screen.old out.old result.hand screen.new out.new }
-{
-    let hand = reached.hand;
-    if hand.wrong == 0 {
-        let next = step(hand, screen, out, script, at);
-        if next.wrong == 0 {
-            return Reached {
-                kept: reached.kept + 1,
-                hand: next,
-            };
-        }
-        return Reached {
-            kept: reached.kept,
-            hand: next,
+    let due = reached.wrong.is_none() & reached.hand.drawn;
+    if due {
+        return match cues::show(reached.hand, screen, out, 0) {
+            Ok(hand) => Reached { hand, ..reached },
+            Err(wrong) => Reached {
+                wrong: Some(wrong),
+                ..reached
+            },
         };
-    }
-    reached
-}
-
-// All steps, from an empty screen on channel 1.
-fn reach(script: &[u8], screen: &mut [u8], out: &mut [u8]) -> Reached
-    requires { (screen.old ≡ blank) × (length out.old ≡ 80000) }
-    ensures { Fit result.hand × (result.kept ≡ (reached_of script.now (length script.now / size)).kept)
-        × Goes (reached_of script.now (length script.now / size)).last result.hand screen.new out.old out.new }
-{
-    let count = script.len() / 40;
-    let mut reached = Reached {
-        kept: 0,
-        hand: Hand {
-            channel: 1,
-            drawn: false,
-            frames: 0,
-            wrong: 0,
-            earliest: 0,
-        },
-    };
-    let mut k = 0;
-    while k < count {
-        reached = more(reached, screen, out, script, k * 40);
-        k += 1;
     }
     reached
 }
 
 // The reel of a script at the front of a buffer of 80,000 bytes, whose other bytes stay; where a step is wrong, of the steps before it.
+#[tactic(auto, unfolding(crate::specs::Make::make_of, crate::specs::Script::made_of, crate::specs::Script::script_reel_of))]
 pub fn make(script: &[u8], out: &mut [u8]) -> Made
-    ensures { outcome result.wrong result.kept result.earliest result.n out.new ≡ make_of script.now out.old }
+    ensures { outcome (number_of_wrong result.wrong) result.kept (earliest_of result.wrong) result.n out.new ≡ make_of script.now out.old }
 {
-    if (out.len() == 80000) & (script.len() % 40 == 0) {
-        let mut screen = [0u8; 960];
-        let reached = reach(script, &mut screen, out);
-        let hand = reached.hand;
-        let last = show_last(hand, &mut screen, out);
+    if out.len() != 80000 || script.len() % 40 != 0 {
         return Made {
-            wrong: last.wrong,
-            kept: reached.kept,
-            earliest: last.earliest,
-            n: last.frames * 5,
+            kept: 0,
+            n: 0,
+            wrong: Some(Wrong::WrongLength),
         };
     }
+    let mut screen = [0u8; 960];
+    let reached = reach(script, &mut screen, out);
+    let last = show_last(reached, &mut screen, out);
     Made {
-        wrong: 1,
-        kept: 0,
-        earliest: 0,
-        n: 0,
+        kept: last.kept,
+        n: last.hand.frames * 5,
+        wrong: last.wrong,
     }
 }

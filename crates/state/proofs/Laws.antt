@@ -11,7 +11,7 @@ use Rattle.facts.specs.Choice.{pick}
 use Rattle.facts.proofs.Choice.{pick_cases, and_left}
 use Rattle.cell.specs.declared.Row.{Row}
 use Rattle.cell.specs.declared.Cursor.{Cursor}
-use Rattle.cell.specs.Place.{cell_at, row_number, column_number}
+use Rattle.cell.specs.Place.{cell_at, column_number}
 use Rattle.cell.specs.Pen.{is_pen}
 use Rattle.cell.specs.Cursor.{Placed, cursor}
 use Rattle.window.specs.Window.{above_of}
@@ -35,12 +35,6 @@ pub cursor_of_placed : (m : Mode) → Ranged m → Placed (cursor_of m)
 unfolding cursor_of
 cursor_of_placed m r =
     pick_cases Placed (eqb m.style 1) (λ t. r.roll) (λ t. pick_cases Placed (eqb m.style 2) (λ u. r.pop) (λ u. r.paint))
-
--- A cursor picked field by field.
-pub pick-cursor : (t : Bool) (x y : Cursor) {row column pen : ℕ} → row ≡ pick t x.row.0 y.row.0 → column ≡ pick t x.column.0 y.column.0 → pen ≡ pick t x.pen y.pen
-    → cursor (row_number row) (column_number column) pen ≡ pick t x y
-pick-cursor true x y e f g = λ i. cursor (row_number (e i)) (column_number (f i)) (g i)
-pick-cursor false x y e f g = λ i. cursor (row_number (e i)) (column_number (f i)) (g i)
 
 -- The style's cursor set and taken again: what was set last stands, and the rest of the mode stays.
 

@@ -11,6 +11,8 @@ ghost use Rattle.state.specs.Ranges.{Ranged};
 use cell::{Column, Cursor, Row};
 
 // The styles as the record numbers them; 0 is none.
+// A style stays as it is: a number. `record::read_state` cannot fail and gives what any 1,984 bytes say (`state_of`), a style 4 too, and it is
+// `valid::is_valid_state` that refuses such a record; an enum has no value for what is to be refused.
 pub const ROLL_UP: u8 = 1;
 
 pub const POP_ON: u8 = 2;
@@ -18,7 +20,8 @@ pub const POP_ON: u8 = 2;
 pub const PAINT_ON: u8 = 3;
 
 // What the codes change: style, Text, the roll-up mark and depth, and for each style a cursor with its pen.
-#[derive(Clone, Copy)]
+// What Text and mark hold, 0 or 1, stays as it is: a number, as a style. A record may say 2 of either (`state_of`), which is no bool.
+#[derive(Clone, Copy, Debug, PartialEq, Eq)]
 pub struct Mode {
     pub style: u8,
     pub text: u8,
@@ -30,7 +33,9 @@ pub struct Mode {
 }
 
 // The whole state: the mode, and what the pair rules keep of the stream.
-#[derive(Clone, Copy)]
+// What the stream's channel, 0 for none, and the expected pair, 0 and 0 for none, hold stays as it is: the record's bytes. Any two bytes can be read
+// there (`state_of`), and are the same bytes written back (`fields_of`): taken for `None`, a pair 0 and 5 would come back as 0 and 0.
+#[derive(Clone, Copy, Debug, PartialEq, Eq)]
 pub struct State {
     pub acts: u16,
     pub selected: u8,
@@ -53,14 +58,13 @@ impl State {
     pub fn fresh(channel: u8) -> State
         ensures { result ≡ fresh_of channel }
     {
-        let mode = Mode::fresh();
         State {
             acts: 0,
             selected: channel,
             stream: 0,
             first: 0,
             second: 0,
-            mode,
+            mode: Mode::fresh(),
         }
     }
 
@@ -69,9 +73,10 @@ impl State {
         requires { self.acts < 65535 }
         ensures { result ≡ selected_of self channel }
     {
-        let mut fresh = State::fresh(channel);
-        fresh.acts = self.acts + 1;
-        fresh
+        State {
+            acts: self.acts + 1,
+            ..State::fresh(channel)
+        }
     }
 }
 
@@ -84,16 +89,6 @@ pub fn fresh_cursor() -> Cursor
         column: Column(State::COLUMN),
         pen: State::PEN,
     }
-}
-
-// The first cursor where the test passes, else the second: each field as a byte, so that the compiler can keep it in a register.
-fn choose(test: bool, x: Cursor, y: Cursor) -> Cursor
-    ensures { result ≡ pick test x y }
-{
-    let row = Row(facts::choose(test, x.row.0, y.row.0));
-    let column = Column(facts::choose(test, x.column.0, y.column.0));
-    let pen = facts::choose(test, x.pen, y.pen);
-    Cursor { row, column, pen }
 }
 
 impl Mode {
@@ -113,6 +108,7 @@ impl Mode {
     }
 
     // A style is set and Text is off.
+    #[tactic(auto, unfolding(crate::specs::Style::is_ready))]
     pub fn is_ready(self) -> bool
         ensures { result ≡ is_ready self }
     {
@@ -120,30 +116,30 @@ impl Mode {
     }
 
     // The cursor of the style.
+    #[tactic(auto, using(crate::proofs::Laws::cursor_of_placed), unfolding(crate::specs::Style::cursor_of))]
     pub fn cursor(self) -> Cursor
         requires { Ranged self }
         ensures { (result ≡ cursor_of self) × Placed result }
     {
-        let other = choose(self.style == POP_ON, self.pop, self.paint);
-        choose(self.style == ROLL_UP, self.roll, other)
+        match self.style {
+            ROLL_UP => self.roll,
+            POP_ON => self.pop,
+            _ => self.paint,
+        }
     }
 
     // The mode with another cursor for its style.
-    pub fn with_cursor(self, cursor: Cursor) -> Mode
+    #[tactic(auto, unfolding(crate::specs::Style::with_cursor))]
+    pub fn with_cursor(mut self, cursor: Cursor) -> Mode
         ensures { result ≡ with_cursor self cursor }
     {
-        let roll = choose(self.style == ROLL_UP, cursor, self.roll);
-        let pop = choose(self.style == POP_ON, cursor, self.pop);
-        let paint = choose(self.style == PAINT_ON, cursor, self.paint);
-        Mode {
-            style: self.style,
-            text: self.text,
-            mark: self.mark,
-            depth: self.depth,
-            roll,
-            pop,
-            paint,
+        match self.style {
+            ROLL_UP => self.roll = cursor,
+            POP_ON => self.pop = cursor,
+            PAINT_ON => self.paint = cursor,
+            _ => {}
         }
+        self
     }
 
     // Where the memory starts that the style works on.
@@ -152,8 +148,9 @@ impl Mode {
         ensures { (result ≡ memory_of self) × (result ≤ 960) }
     {
         if self.style == POP_ON {
-            return page::NON_DISPLAYED;
+            page::NON_DISPLAYED
+        } else {
+            page::DISPLAYED
         }
-        page::DISPLAYED
     }
 }

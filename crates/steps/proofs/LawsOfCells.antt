@@ -9,13 +9,18 @@ use lib.Dec.{leb}
 use lib.ListN.{length, get_or, set, drop, replicate}
 use lib.Seq.{drop-cons, drop-length}
 use borrow.Author.Tests.{leb-true, ne_eqb}
+use Rattle.std.specs.Prelude.{Ok, Err}
 use Rattle.facts.specs.Over.{over}
 use Rattle.facts.proofs.Choice.{and_left, and_right}
 use Rattle.facts.proofs.Over.{over_two, over_all}
+use Rattle.tape.specs.Channel.{number_of_channel}
 use Rattle.items.proofs.LawsOfLaid.{Rest, rest_start, rest_turn, rest_stop}
 use Rattle.steps.specs.declared.Hand.{Hand}
+use Rattle.steps.specs.declared.Wrong.{Wrong}
+use Rattle.steps.specs.declared.Wrong.TheVariants.{WrongLength, NoSuch, TooManyFrames, Invalid, NotWritable, TooEarly, Unshown}
 use Rattle.steps.specs.Take.{Take, take, Went, went, cells_of, is_place, row_at, typed_of, wrong_row_of, put_of}
-use Rattle.steps.specs.Hand.{hand, stopped_of, went_of, Does}
+use Rattle.steps.specs.Wrong.{wrong_number_of, wrong_frame_of}
+use Rattle.steps.specs.Hand.{hand, take_of, Does}
 use Rattle.steps.proofs.LawsOfHand.{does_same, does_stopped}
 
 module _ (screen : List ℕ) (at pen : ℕ) (codes : List ℕ) where
@@ -71,32 +76,44 @@ module _ (t : Take) (row column pen : ℕ) (codes : List ℕ) where
   unfolding put_of
   put_nowhere p = rw p
 
+-- what is wrong has a number
+pub some_number : (wrong : Wrong) → wrong_number_of wrong ≡ 0 → ⊥
+some_number WrongLength e = omega arith
+some_number NoSuch e = omega arith
+some_number TooManyFrames e = omega arith
+some_number Invalid e = omega arith
+some_number NotWritable e = omega arith
+some_number (TooEarly frame) e = omega arith
+some_number Unshown e = omega arith
+
 -- The screen is tried on a copy, which comes back where it is kept.
 
 module _ (h : Hand) (screen : List ℕ) (row column pen : ℕ) (codes : List ℕ) where
-  puts : Went → Went
-  puts w = put_of w.to row column pen codes
+  puts : Take → Went
+  puts t = put_of t row column pen codes
 
-  module _ {tried typed : List ℕ} {wrong : ℕ} (size : length screen ≡ 960) (place : is_place row column (length codes) ≡ true) (copied : tried ≡ over (replicate 960 0) 0 screen)
-      (put : (typed ≡ typed_of tried row column pen codes) × (wrong ≡ wrong_row_of typed (row_at row))) where
+  module _ {tried typed : List ℕ} (size : length screen ≡ 960) (place : is_place row column (length codes) ≡ true) (copied : tried ≡ over (replicate 960 0) 0 screen)
+      (put : typed ≡ typed_of tried row column pen codes) where
     is_typed : typed ≡ typed_of screen row column pen codes
-    is_typed = put.0 ∙ ap (λ (d : List ℕ). typed_of d row column pen codes) (copied ∙ over_all (replicate 960 0) screen (sym size))
+    is_typed = put ∙ ap (λ (d : List ℕ). typed_of d row column pen codes) (copied ∙ over_all (replicate 960 0) screen (sym size))
 
-    is_wrong : wrong ≡ wrong_row_of (typed_of screen row column pen codes) (row_at row)
-    is_wrong = put.1 ∙ ap (λ (d : List ℕ). wrong_row_of d (row_at row)) is_typed
+    is_wrong : {wrong : ℕ} → wrong ≡ wrong_row_of typed (row_at row) → wrong ≡ wrong_row_of (typed_of screen row column pen codes) (row_at row)
+    is_wrong w = w ∙ ap (λ (d : List ℕ). wrong_row_of d (row_at row)) is_typed
 
-    pub does_put : {r : Hand} {back : List ℕ} → wrong ≡ 0 → length typed ≡ 960 → back ≡ over screen 0 typed → r ≡ hand h.channel true h.frames 0 0
-        → (out : List ℕ) → Does (λ w. put_of w.to row column pen codes) h screen out r back out
+    pub does_put : {back : List ℕ} → 0 ≡ wrong_row_of typed (row_at row) → length typed ≡ 960 → back ≡ over screen 0 typed
+        → (out : List ℕ) → Does (λ t. put_of t row column pen codes) h screen out (Ok (hand h.channel true h.frames)) back out
     unfolding puts
-    does_put e l b k out =
+    does_put e l b out =
         let shown = b ∙ over_all screen typed (size ∙ sym l) ∙ is_typed in
-        does_same puts h screen out (ap (λ (q : Hand). q.frames) k)
-        (λ cues n. put_kept (take h.channel h.drawn screen cues) row column pen codes place (sym is_wrong ∙ e) ∙ (λ i. went_of (sym k i) (sym shown i) cues))
+        does_same puts h screen out refl
+        (λ cues n. put_kept (take_of h screen cues) row column pen codes place (sym (is_wrong e)) ∙ (λ i. went 0 0 (take (number_of_channel h.channel) true (sym shown i) cues)))
 
-    pub stops_put : {r : Hand} → (wrong ≡ 0 → ⊥) → r ≡ stopped_of h wrong 0 → (out : List ℕ) → Does (λ w. put_of w.to row column pen codes) h screen out r screen out
+    pub stops_put : {wrong : Wrong} → wrong_number_of wrong ≡ wrong_row_of typed (row_at row) → wrong_frame_of wrong ≡ 0 → (out : List ℕ) → Does (λ t. put_of t row column pen codes) h screen out (Err wrong) screen out
     unfolding puts
-    stops_put some k out = does_stopped puts h screen out wrong 0 k refl (λ cues n. put_wrong (take h.channel h.drawn screen cues) row column pen codes place is_wrong some)
+    stops_put {wrong} e z out =
+        does_stopped puts h screen out
+        (λ cues n. put_wrong (take_of h screen cues) row column pen codes place (is_wrong e) (some_number wrong) ∙ (λ i. went (wrong_number_of wrong) (sym z i) (take_of h screen cues)))
 
-  pub stops_place : {r : Hand} → is_place row column (length codes) ≡ false → r ≡ stopped_of h 2 0 → (out : List ℕ) → Does (λ w. put_of w.to row column pen codes) h screen out r screen out
+  pub stops_place : is_place row column (length codes) ≡ false → (out : List ℕ) → Does (λ t. put_of t row column pen codes) h screen out (Err NoSuch) screen out
   unfolding puts
-  stops_place p k out = does_stopped puts h screen out 2 0 k refl (λ cues n. put_nowhere (take h.channel h.drawn screen cues) row column pen codes p)
+  stops_place p out = does_stopped puts h screen out (λ cues n. put_nowhere (take_of h screen cues) row column pen codes p)

@@ -6,6 +6,7 @@ use Prim.Native.Nat.{ℕ, ◌+◌, ◌-◌, ◌<◌, ◌≤◌}
 use native.Mathlib.Omega.{arith}
 use lib.ListN.{length}
 use borrow.Author.Tests.{le-leb, lt-leb}
+use Rattle.std.specs.Prelude.{Result, Ok, Err}
 use Rattle.facts.specs.Over.{over}
 use Rattle.facts.proofs.Over.{over_all}
 use Rattle.wire.specs.Reel.{pairs_of, reel_of_raw}
@@ -18,8 +19,9 @@ use Rattle.tape.proofs.LawsOfSizes.{nulls_of_pairs, pairs_of-nulls_of, loading_o
 use Rattle.items.proofs.LawsOfItems.{length_twice}
 use Rattle.frames.specs.Held.{held_of}
 use Rattle.frames.proofs.Laws.{held_of_then}
-use Rattle.steps.specs.declared.Plan.{Plan}
+use Rattle.steps.specs.declared.Wrong.{Wrong}
 use Rattle.steps.specs.Take.{Take, frame_count_of, went, timed_of, after_show_of, after_clear_of, after_wait_of, show_of, clear_of, wait_of}
+use Rattle.steps.specs.Wrong.{wrong_number_of, wrong_frame_of}
 use Rattle.steps.specs.Hand.{plan_of}
 use Rattle.steps.proofs.LawsOfHand.{frames_more}
 use Rattle.steps.proofs.LawsOfPlan.{plan_held, timed_kept, timed_wrong}
@@ -81,24 +83,24 @@ wait_count count = ap pairs_of (append-nil (nulls_of count)) ∙ pairs_of-nulls_
 -- What the steps come to.
 
 module _ (t : Take) (frame : ℕ) where
-  abbrev pub show_plan : Plan
+  abbrev pub show_plan : Result ℕ Wrong
   show_plan = plan_of (frame_count_of t) (pairs_of (tape_of t.screen t.channel)) frame
 
-  abbrev pub clear_plan : Plan
+  abbrev pub clear_plan : Result ℕ Wrong
   clear_plan = plan_of (frame_count_of t) 2 frame
 
   show_frames : (held : ℕ) → frame_count_of (after_show_of t held) ≡ frame_count_of t + pairs_of (tape_of t.screen t.channel) + held
   show_frames held = omega (arith, frames_more t.cues (show t.screen t.channel held ∷ []), (show_cued t.channel t.screen held).count)
 
   module _ (fit : (are_cells t.screen && is_writable t.screen) ≡ true) where
-    pub show_kept : show_plan.wrong ≡ 0 → show_of t frame ≡ went 0 0 (after_show_of t show_plan.held)
+    pub show_kept : {held : ℕ} → Ok held ≡ show_plan → show_of t frame ≡ went 0 0 (after_show_of t held)
     unfolding show_of
     show_kept e =
         let pairs = pairs_of (tape_of t.screen t.channel) in
         let held = frame - (frame_count_of t + pairs - 1) in
-        rw fit (timed_kept (frame_count_of t) pairs frame t (after_show_of t held) (show_frames held) e ∙ ap (λ (k : ℕ). went 0 0 (after_show_of t k)) (sym (plan_held (frame_count_of t) pairs frame)))
+        rw fit (timed_kept (frame_count_of t) pairs frame t (after_show_of t held) (show_frames held) e ∙ ap (λ (k : ℕ). went 0 0 (after_show_of t k)) (sym (plan_held (frame_count_of t) pairs frame e).0))
 
-    pub show_wrong : (show_plan.wrong ≡ 0 → ⊥) → show_of t frame ≡ went show_plan.wrong show_plan.earliest t
+    pub show_wrong : {wrong : Wrong} → Err wrong ≡ show_plan → show_of t frame ≡ went (wrong_number_of wrong) (wrong_frame_of wrong) t
     unfolding show_of
     show_wrong e =
         let pairs = pairs_of (tape_of t.screen t.channel) in
@@ -115,15 +117,15 @@ module _ (t : Take) (frame : ℕ) where
   one : frame_count_of t + 2 - 1 ≡ frame_count_of t + 1
   one = omega arith
 
-  pub clear_kept : clear_plan.wrong ≡ 0 → clear_of t frame ≡ went 0 0 (after_clear_of t clear_plan.held)
+  pub clear_kept : {held : ℕ} → Ok held ≡ clear_plan → clear_of t frame ≡ went 0 0 (after_clear_of t held)
   unfolding clear_of
   clear_kept e =
       let held = frame - (frame_count_of t + 2 - 1) in
       ap (λ (k : ℕ). timed_of t frame k (after_clear_of t (frame - k))) (sym one)
       ∙ timed_kept (frame_count_of t) 2 frame t (after_clear_of t held) (clear_frames held) e
-      ∙ ap (λ (k : ℕ). went 0 0 (after_clear_of t k)) (sym (plan_held (frame_count_of t) 2 frame))
+      ∙ ap (λ (k : ℕ). went 0 0 (after_clear_of t k)) (sym (plan_held (frame_count_of t) 2 frame e).0)
 
-  pub clear_wrong : (clear_plan.wrong ≡ 0 → ⊥) → clear_of t frame ≡ went clear_plan.wrong clear_plan.earliest t
+  pub clear_wrong : {wrong : Wrong} → Err wrong ≡ clear_plan → clear_of t frame ≡ went (wrong_number_of wrong) (wrong_frame_of wrong) t
   unfolding clear_of
   clear_wrong e =
       let held = frame - (frame_count_of t + 2 - 1) in

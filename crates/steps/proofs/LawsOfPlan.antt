@@ -1,77 +1,62 @@
 -- A cue is kept at its frame, or it is told why it cannot be. Assumes nothing.
-use mathlib.Core.Path.{◌≡◌, refl}
+use mathlib.Core.Path.{◌≡◌, refl, sym, ap, ◌∙◌}
 use mathlib.Core.Bool.{Bool, true, false}
-use Prim.Native.Nat.{ℕ, ◌+◌, ◌-◌, ◌<◌, ◌≤◌}
+use Prim.Native.Nat.{ℕ, ◌+◌, ◌-◌, ◌≤◌}
 use native.Mathlib.Omega.{arith}
 use lib.Dec.{leb}
-use borrow.Author.Tests.{le-leb, lt-leb, leb-true}
+use borrow.Author.Tests.{leb-true}
+use Rattle.std.specs.Prelude.{Result, Ok, Err}
 use Rattle.facts.specs.Choice.{pick}
-use Rattle.steps.specs.declared.Plan.{Plan}
+use Rattle.steps.specs.declared.Wrong.{Wrong}
+use Rattle.steps.specs.declared.Wrong.TheVariants.{TooManyFrames, TooEarly}
 use Rattle.steps.specs.Take.{Take, frame_count_of, Went, went, is_kept, timed_of}
+use Rattle.steps.specs.Wrong.{wrong_number_of, wrong_frame_of, number_of_wrong, wrong_of}
 use Rattle.steps.specs.Hand.{plan_of}
 
-abbrev plan : ℕ → ℕ → ℕ → Plan
-plan wrong earliest held = record { wrong = wrong; earliest = earliest; held = held }
+value : Result ℕ Wrong → ℕ
+value (Ok held) = held
+value (Err wrong) = 0
+
+number : Result ℕ Wrong → ℕ
+number r = number_of_wrong (wrong_of r)
 
 module _ (earliest held : ℕ) where
-  abbrev choice : Bool → Bool → Plan
-  choice kept fits = pick kept (pick fits (plan 0 0 held) (plan 3 0 held)) (plan 8 earliest held)
+  abbrev choice : Bool → Bool → Result ℕ Wrong
+  choice kept fits = pick kept (pick fits (Ok held) (Err TooManyFrames)) (Err (TooEarly earliest))
 
-  choice_held : (kept fits : Bool) → (choice kept fits).held ≡ held
-  choice_held true true = refl
-  choice_held true false = refl
-  choice_held false fits = refl
-
-  choice_fits : (kept fits : Bool) → (choice kept fits).wrong ≡ 0 → fits ≡ true
-  choice_fits true true e = refl
-  choice_fits true false e = absurd (omega arith)
-  choice_fits false fits e = absurd (omega arith)
+  choice_held : {n : ℕ} (kept fits : Bool) → Ok n ≡ choice kept fits → (n ≡ held) × (fits ≡ true)
+  unfolding value number
+  choice_held true true e = (ap value e, refl)
+  choice_held true false e = let z = ap number e in absurd (omega arith)
+  choice_held false fits e = let z = ap number e in absurd (omega arith)
 
   module _ (t next : Take) where
-    abbrev timed : Bool → Bool → Went
-    timed kept fits = pick kept (pick fits (went 0 0 next) (went 3 0 t)) (went 8 earliest t)
+    -- how it goes on, by the plan
+    abbrev came : Result ℕ Wrong → Went
+    came (Ok held) = went 0 0 next
+    came (Err wrong) = went (wrong_number_of wrong) (wrong_frame_of wrong) t
 
-    choice_kept : (kept fits : Bool) → (choice kept fits).wrong ≡ 0 → timed kept fits ≡ went 0 0 next
-    choice_kept true true e = refl
-    choice_kept true false e = absurd (omega arith)
-    choice_kept false fits e = absurd (omega arith)
-
-    choice_wrong : (kept fits : Bool) → ((choice kept fits).wrong ≡ 0 → ⊥) → timed kept fits ≡ went (choice kept fits).wrong (choice kept fits).earliest t
-    choice_wrong true true e = absurd (e refl)
-    choice_wrong true false e = refl
-    choice_wrong false fits e = refl
-
--- The plan, from its tests.
-module _ (frames pairs frame : ℕ) {held : ℕ} (e : held ≡ frame - (frames + pairs - 1)) where
-  pub plan_kept : is_kept frame (frames + pairs - 1) ≡ true → frames + pairs + held ≤ 16000 → plan 0 0 held ≡ plan_of frames pairs frame
-  unfolding plan_of
-  plan_kept k l = rw (← e, k, le-leb (frames + pairs + held) 16000 l)
-
-  pub plan_long : is_kept frame (frames + pairs - 1) ≡ true → 16000 < frames + pairs + held → plan 3 0 held ≡ plan_of frames pairs frame
-  unfolding plan_of
-  plan_long k l = rw (← e, k, lt-leb (frames + pairs + held) 16000 l)
-
-  pub plan_early : is_kept frame (frames + pairs - 1) ≡ false → plan 8 (frames + pairs - 1) held ≡ plan_of frames pairs frame
-  unfolding plan_of
-  plan_early k = rw (← e, k)
+    choice_came : (kept fits : Bool) → pick kept (pick fits (went 0 0 next) (went 3 0 t)) (went 8 earliest t) ≡ came (choice kept fits)
+    choice_came true true = refl
+    choice_came true false = refl
+    choice_came false fits = refl
 
 module _ (frames pairs frame : ℕ) where
-  pub plan_held : (plan_of frames pairs frame).held ≡ frame - (frames + pairs - 1)
+  pub plan_held : {held : ℕ} → Ok held ≡ plan_of frames pairs frame → (held ≡ frame - (frames + pairs - 1)) × (frames + pairs + held ≤ 16000)
   unfolding plan_of
-  plan_held = choice_held (frames + pairs - 1) (frame - (frames + pairs - 1)) (is_kept frame (frames + pairs - 1)) (leb (frames + pairs + (frame - (frames + pairs - 1))) 16000)
-
-  pub plan_fits : (plan_of frames pairs frame).wrong ≡ 0 → frames + pairs + (plan_of frames pairs frame).held ≤ 16000
-  unfolding plan_of
-  plan_fits e =
+  plan_held e =
       let held = frame - (frames + pairs - 1) in
-      let fits = choice_fits (frames + pairs - 1) held (is_kept frame (frames + pairs - 1)) (leb (frames + pairs + held) 16000) e in
-      omega (arith, plan_held, leb-true (frames + pairs + held) 16000 fits)
+      let h = choice_held (frames + pairs - 1) held (is_kept frame (frames + pairs - 1)) (leb (frames + pairs + held) 16000) e in
+      (h.0, omega (arith, h.0, leb-true (frames + pairs + held) 16000 h.1))
 
   module _ (t next : Take) (n : frame_count_of next ≡ frames + pairs + (frame - (frames + pairs - 1))) where
-    pub timed_kept : (plan_of frames pairs frame).wrong ≡ 0 → timed_of t frame (frames + pairs - 1) next ≡ went 0 0 next
+    timed_came : timed_of t frame (frames + pairs - 1) next ≡ came (frames + pairs - 1) (frame - (frames + pairs - 1)) t next (plan_of frames pairs frame)
     unfolding plan_of
-    timed_kept e = rw n (choice_kept (frames + pairs - 1) (frame - (frames + pairs - 1)) t next (is_kept frame (frames + pairs - 1)) (leb (frames + pairs + (frame - (frames + pairs - 1))) 16000) e)
+    timed_came =
+        rw n (choice_came (frames + pairs - 1) (frame - (frames + pairs - 1)) t next (is_kept frame (frames + pairs - 1)) (leb (frames + pairs + (frame - (frames + pairs - 1))) 16000))
 
-    pub timed_wrong : ((plan_of frames pairs frame).wrong ≡ 0 → ⊥) → timed_of t frame (frames + pairs - 1) next ≡ went (plan_of frames pairs frame).wrong (plan_of frames pairs frame).earliest t
-    unfolding plan_of
-    timed_wrong e = rw n (choice_wrong (frames + pairs - 1) (frame - (frames + pairs - 1)) t next (is_kept frame (frames + pairs - 1)) (leb (frames + pairs + (frame - (frames + pairs - 1))) 16000) e)
+    pub timed_kept : {held : ℕ} → Ok held ≡ plan_of frames pairs frame → timed_of t frame (frames + pairs - 1) next ≡ went 0 0 next
+    timed_kept e = timed_came ∙ ap (came (frames + pairs - 1) (frame - (frames + pairs - 1)) t next) (sym e)
+
+    pub timed_wrong : {wrong : Wrong} → Err wrong ≡ plan_of frames pairs frame → timed_of t frame (frames + pairs - 1) next ≡ went (wrong_number_of wrong) (wrong_frame_of wrong) t
+    timed_wrong e = timed_came ∙ ap (came (frames + pairs - 1) (frame - (frames + pairs - 1)) t next) (sym e)

@@ -17,7 +17,9 @@ use Rattle.tape.specs.Item.{eoc_item, bytes_of}
 use Rattle.tape.specs.Tape.{loading_of, tape_of}
 use Rattle.tape.specs.Programme.{Cue, programme_of}
 use Rattle.tape.proofs.LawsOfSizes.{length-tape_of}
-use Rattle.writer.specs.Write.{write_tape_of}
+use Rattle.writer.specs.declared.Refusal.{Refusal}
+use Rattle.writer.specs.declared.Refusal.TheVariants.{WrongLength, NoSuch, Invalid, NotWritable}
+use Rattle.writer.specs.Write.{number_of_refusal, write_tape_of}
 use Rattle.frames.specs.Held.{held_of}
 use Rattle.steps.proofs.LawsOfCues.{Cued, length_eoc}
 
@@ -47,29 +49,32 @@ pub record Wrote (memory : List ℕ) (channel value : ℕ) (left : List ℕ) : T
   pub room : value ≤ 4096
   pub tape : take value left ≡ tape_of memory channel
 
-wrote_ways : (a b : Bool) (out : List ℕ) {number value n : ℕ} {left o : List ℕ} → 4 ≤ n → outcome number value left ≡ pick a (pick b (outcome 0 n o) (outcome 7 0 out)) (outcome 6 0 out)
-    → (value ≡ 0 → (a && b) ≡ false) × ((value ≡ 0 → ⊥) → ((a && b) ≡ true) × (value ≡ n) × (left ≡ o))
-wrote_ways true true out h e = let v = ap (λ (o : Outcome). o.value) e in (λ z. absurd (omega arith), λ some. (refl, v, ap (λ (o : Outcome). o.out) e))
-wrote_ways true false out h e = (λ z. refl, λ some. absurd (some (ap (λ (o : Outcome). o.value) e)))
-wrote_ways false b out h e = (λ z. refl, λ some. absurd (some (ap (λ (o : Outcome). o.value) e)))
+wrote_ways : (a b : Bool) (out : List ℕ) {number value n : ℕ} {left o : List ℕ} → outcome number value left ≡ pick a (pick b (outcome 0 n o) (outcome 7 0 out)) (outcome 6 0 out)
+    → ((number ≡ 0 → ⊥) → (a && b) ≡ false) × (number ≡ 0 → ((a && b) ≡ true) × (value ≡ n) × (left ≡ o))
+wrote_ways true true out e = (λ some. absurd (some (ap (λ (o : Outcome). o.number) e)), λ z. (refl, ap (λ (o : Outcome). o.value) e, ap (λ (o : Outcome). o.out) e))
+wrote_ways true false out e = let n = ap (λ (o : Outcome). o.number) e in (λ some. refl, λ z. absurd (omega arith))
+wrote_ways false b out e = let n = ap (λ (o : Outcome). o.number) e in (λ some. refl, λ z. absurd (omega arith))
+
+-- a refusal has a number
+pub some_refusal : (refusal : Refusal) → number_of_refusal refusal ≡ 0 → ⊥
+some_refusal WrongLength e = omega arith
+some_refusal NoSuch e = omega arith
+some_refusal Invalid e = omega arith
+some_refusal NotWritable e = omega arith
 
 module _ (memory out : List ℕ) (channel : ℕ) (size : length memory ≡ 960) (room : length out ≡ 4096) (low : 1 ≤ channel) (high : channel ≤ 2)
     {number value : ℕ} {left : List ℕ} (e : outcome number value left ≡ write_tape_of memory channel out) where
-  ways : (value ≡ 0 → (are_cells memory && is_writable memory) ≡ false)
-      × ((value ≡ 0 → ⊥) → ((are_cells memory && is_writable memory) ≡ true) × (value ≡ length (tape_of memory channel)) × (left ≡ over out 0 (tape_of memory channel)))
+  ways : ((number ≡ 0 → ⊥) → (are_cells memory && is_writable memory) ≡ false)
+      × (number ≡ 0 → ((are_cells memory && is_writable memory) ≡ true) × (value ≡ length (tape_of memory channel)) × (left ≡ over out 0 (tape_of memory channel)))
   unfolding write_tape_of
-  ways = wrote_ways (are_cells memory) (is_writable memory) out (sized_tape memory channel).low (rw (eq-eqb (length memory) 960 size, eq-eqb (length out) 4096 room, le-leb 1 channel low, le-leb channel 2 high) at e)
+  ways = wrote_ways (are_cells memory) (is_writable memory) out (rw (eq-eqb (length memory) 960 size, eq-eqb (length out) 4096 room, le-leb 1 channel low, le-leb channel 2 high) at e)
 
-  pub wrote_none : value ≡ 0 → (are_cells memory && is_writable memory) ≡ false
+  pub wrote_none : (number ≡ 0 → ⊥) → (are_cells memory && is_writable memory) ≡ false
   wrote_none = ways.0
 
-  pub wrote_some : (value ≡ 0 → ⊥) → Wrote memory channel value left
-  wrote_some some =
-      let w = ways.1 some in
+  pub wrote_some : number ≡ 0 → Wrote memory channel value left
+  wrote_some done =
+      let w = ways.1 done in
       let n = w.1 in
       let z = (sized_tape memory channel).high in
       record { fit = w.0; room = omega arith; tape = take-over_front out (tape_of memory channel) value (sym n) (omega arith) w.2 }
-
-  -- the same of the value by another name
-  pub wrote_end : {end : ℕ} → end ≡ value → (end ≡ 0 → ⊥) → Wrote memory channel end left
-  wrote_end same some = rw same (wrote_some (λ z. some (same ∙ z)))

@@ -1,10 +1,11 @@
 // Characters typed into a screen.
-ghost use Rattle.std.specs.Prelude.{◌≡◌, true, List, ℕ, ◌+◌, ◌*◌, ◌≤◌, length};
+ghost use Rattle.std.specs.Prelude.{◌≡◌, true, List, ℕ, ◌+◌, ◌*◌, ◌≤◌, IfOk, length};
 ghost use Rattle.facts.specs.Over.{over};
 ghost use Rattle.steps.specs.Take.{cells_of, is_place, row_at, typed_of, wrong_row_of, put_of};
+ghost use Rattle.steps.specs.Wrong.{number_of_wrong, earliest_of, wrong_of};
 ghost use Rattle.steps.specs.Hand.{Fit, Does};
 
-use crate::Hand;
+use crate::{Hand, Wrong};
 
 // Whether so many characters have a place in a row from a column on.
 fn is_place(row: u8, column: u8, count: usize) -> bool
@@ -19,32 +20,35 @@ fn put_cells(screen: &mut [u8], at: usize, pen: u8, codes: &[u8])
     requires { at + length codes.now * 2 ≤ length screen.old }
     ensures { screen.new ≡ over screen.old at (cells_of pen codes.now) }
 {
-    let mut i = 0;
-    while i < codes.len() {
-        screen[at + i * 2] = codes[i];
+    for (i, code) in codes.iter().enumerate() {
+        screen[at + i * 2] = *code;
         screen[at + i * 2 + 1] = pen;
-        i += 1;
     }
 }
 
-// What is wrong with the row that starts at `at`; 0 where nothing is.
-fn wrong_row(screen: &[u8], at: usize) -> u8
+// What is wrong with the row that starts at `at`, if anything.
+#[tactic(auto, unfolding(crate::specs::Take::wrong_row_of))]
+fn wrong_row(screen: &[u8], at: usize) -> Result<(), Wrong>
     requires { at + 64 ≤ length screen.now }
-    ensures { result ≡ wrong_row_of screen.now at }
+    ensures wrong { number_of_wrong (wrong_of result) ≡ wrong_row_of screen.now at }
+    ensures earliest { earliest_of (wrong_of result) ≡ 0 }
 {
-    if valid::is_row(screen, at) {
-        if writable::is_row_writable(screen, at) {
-            return 0;
-        }
-        return 7;
+    if !valid::is_row(screen, at) {
+        return Err(Wrong::Invalid);
     }
-    6
+    if !writable::is_row_writable(screen, at) {
+        return Err(Wrong::NotWritable);
+    }
+    Ok(())
 }
 
 // Characters into a row, and what is wrong with the row then.
-fn put_row(screen: &mut [u8], row: u8, column: u8, pen: u8, codes: &[u8]) -> u8
+#[tactic(auto, unfolding(crate::specs::Take::typed_of))]
+fn put_row(screen: &mut [u8], row: u8, column: u8, pen: u8, codes: &[u8]) -> Result<(), Wrong>
     requires { (is_place row column (length codes.now) ≡ true) × (length screen.old ≡ 960) }
-    ensures { (screen.new ≡ typed_of screen.old row column pen codes.now) × (result ≡ wrong_row_of screen.new (row_at row)) }
+    ensures typed { screen.new ≡ typed_of screen.old row column pen codes.now }
+    ensures wrong { number_of_wrong (wrong_of result) ≡ wrong_row_of screen.new (row_at row) }
+    ensures earliest { earliest_of (wrong_of result) ≡ 0 }
 {
     let at = (row as usize - 1) * 64;
     put_cells(screen, at + (column as usize - 1) * 2, pen, codes);
@@ -52,19 +56,27 @@ fn put_row(screen: &mut [u8], row: u8, column: u8, pen: u8, codes: &[u8]) -> u8
 }
 
 // Types characters where nothing is wrong then: the screen is tried on a copy.
-pub fn put(hand: Hand, screen: &mut [u8], row: u8, column: u8, pen: u8, codes: &[u8]) -> Hand
+pub fn put(
+    hand: Hand,
+    screen: &mut [u8],
+    row: u8,
+    column: u8,
+    pen: u8,
+    codes: &[u8],
+) -> Result<Hand, Wrong>
     requires { Fit hand × (length screen.old ≡ 960) × (length codes.now ≤ 32) }
-    ensures { Fit result × ((out : List ℕ) → Does (λ w. put_of w.to row column pen codes.now) hand screen.old out result screen.new out) }
+    ensures fit { IfOk result (λ next. Fit next) }
+    ensures does { (out : List ℕ) → Does (λ t. put_of t row column pen codes.now) hand screen.old out result screen.new out }
 {
-    if is_place(row, column, codes.len()) {
-        let mut tried = [0u8; 960];
-        facts::copy(&mut tried, screen);
-        let wrong = put_row(&mut tried, row, column, pen, codes);
-        if wrong == 0 {
-            facts::copy(screen, &tried);
-            return hand.typed();
-        }
-        return hand.stopped(wrong, 0);
+    if !is_place(row, column, codes.len()) {
+        return Err(Wrong::NoSuch);
     }
-    hand.stopped(2, 0)
+    let mut tried = [0u8; 960];
+    facts::copy(&mut tried, screen);
+    put_row(&mut tried, row, column, pen, codes)?;
+    facts::copy(screen, &tried);
+    Ok(Hand {
+        drawn: true,
+        ..hand
+    })
 }

@@ -4,87 +4,81 @@
 pub mod cells;
 pub mod cues;
 
-ghost use Rattle.std.specs.Prelude.{◌≡◌, true, List, ℕ, ◌+◌, ◌≤◌};
+ghost use Rattle.std.specs.Prelude.{◌≡◌, List, ℕ, ◌+◌, ◌≤◌, IfOk};
 ghost use Rattle.steps.specs.Take.{switch_of};
-ghost use Rattle.steps.specs.Hand.{hand, stopped_of, Fit, Does};
+ghost use Rattle.steps.specs.Wrong.{wrong_number_of};
+ghost use Rattle.steps.specs.Hand.{hand, Fit, Does};
 
-// What is in hand between two steps: the channel that is written for, whether a screen is still to be shown, how many frames there are;
-// and what the last step came to, 0 or what is wrong, with the earliest frame that could be kept.
-#[derive(Clone, Copy)]
-pub struct Hand {
-    pub channel: u8,
-    pub drawn: bool,
-    pub frames: usize,
-    pub wrong: u8,
-    pub earliest: usize,
+use tape::Channel;
+
+// Why a step is not kept.
+#[derive(Clone, Copy, Debug, PartialEq, Eq)]
+pub enum Wrong {
+    // A buffer without room for 16,000 lines, or a script that is not whole steps.
+    WrongLength,
+    // A place or a channel that there is not.
+    NoSuch,
+    TooManyFrames,
+    // A cell that is not valid, or what is no step.
+    Invalid,
+    NotWritable,
+    // With the earliest frame that could be kept.
+    TooEarly(usize),
+    // Another channel while a screen is still to be shown.
+    Unshown,
 }
 
-// How a cue comes at its frame: 0 and for how many frames it is held, or what is wrong.
-#[derive(Clone, Copy)]
-pub struct Plan {
-    pub wrong: u8,
-    pub earliest: usize,
-    pub held: usize,
+// The paper's number, and behind those 8 and 9 for a script's own.
+impl From<Wrong> for u8 {
+    ghost from_gives = { λ wrong number. number ≡ wrong_number_of wrong };
+
+    fn from(wrong: Wrong) -> u8 {
+        match wrong {
+            Wrong::WrongLength => 1,
+            Wrong::NoSuch => 2,
+            Wrong::TooManyFrames => 3,
+            Wrong::Invalid => 6,
+            Wrong::NotWritable => 7,
+            Wrong::TooEarly(_) => 8,
+            Wrong::Unshown => 9,
+        }
+    }
+}
+
+// What is in hand between two steps: the channel that is written for, whether a screen is still to be shown, and how many frames there are.
+#[derive(Clone, Copy, Debug, PartialEq, Eq)]
+pub struct Hand {
+    pub channel: Channel,
+    pub drawn: bool,
+    pub frames: usize,
 }
 
 impl Hand {
-    // Nothing is done, and it is told why.
-    pub fn stopped(self, wrong: u8, earliest: usize) -> Hand
-        ensures { result ≡ stopped_of self wrong earliest }
-    {
-        Hand {
-            channel: self.channel,
-            drawn: self.drawn,
-            frames: self.frames,
-            wrong: wrong,
-            earliest: earliest,
-        }
-    }
-
-    // A screen is typed, and still to be shown.
-    pub fn typed(self) -> Hand
-        ensures { result ≡ hand self.channel true self.frames 0 0 }
-    {
-        Hand {
-            channel: self.channel,
-            drawn: true,
-            frames: self.frames,
-            wrong: 0,
-            earliest: 0,
-        }
-    }
-
     // So many frames more.
     pub fn further(self, frames: usize) -> Hand
         requires { self.frames + frames ≤ 16000 }
-        ensures { result ≡ hand self.channel self.drawn (self.frames + frames) 0 0 }
+        ensures { result ≡ hand self.channel self.drawn (self.frames + frames) }
     {
         Hand {
-            channel: self.channel,
-            drawn: self.drawn,
             frames: self.frames + frames,
-            wrong: 0,
-            earliest: 0,
+            ..self
         }
     }
 
     // Another channel, where no screen is still to be shown.
-    pub fn switch(self, number: usize) -> Hand
+    pub fn switch(self, number: usize) -> Result<Hand, Wrong>
         requires { Fit self }
-        ensures { Fit result × ((screen out : List ℕ) → Does (λ w. switch_of w.to number) self screen out result screen out) }
+        ensures fit { IfOk result (λ next. Fit next) }
+        ensures does { (screen out : List ℕ) → Does (λ t. switch_of t number) self screen out result screen out }
     {
         if self.drawn {
-            return self.stopped(9, 0);
+            return Err(Wrong::Unshown);
         }
-        if (1 <= number) & (number <= 2) {
-            return Hand {
-                channel: number as u8,
-                drawn: false,
-                frames: self.frames,
-                wrong: 0,
-                earliest: 0,
-            };
-        }
-        self.stopped(2, 0)
+        let channel = match number {
+            1 => Channel::One,
+            2 => Channel::Two,
+            _ => return Err(Wrong::NoSuch),
+        };
+        Ok(Hand { channel, ..self })
     }
 }

@@ -8,31 +8,39 @@ ghost use Rattle.styles.specs.Styles.{rcl_of, rdc_of, text_of, edm_of, enm_of, e
 
 use state::{Mode, PAINT_ON, POP_ON};
 
-pub fn rcl(mut mode: Mode) -> Mode
+#[tactic(auto, unfolding(crate::specs::Styles::rcl_of))]
+pub fn rcl(mode: Mode) -> Mode
     ensures { (d : List ℕ) → captions result d ≡ rcl_of (captions mode d) }
 {
-    mode.style = POP_ON;
-    mode.text = 0;
-    mode
+    Mode {
+        style: POP_ON,
+        text: 0,
+        ..mode
+    }
 }
 
-pub fn rdc(mut mode: Mode) -> Mode
+#[tactic(auto, unfolding(crate::specs::Styles::rdc_of))]
+pub fn rdc(mode: Mode) -> Mode
     ensures { (d : List ℕ) → captions result d ≡ rdc_of (captions mode d) }
 {
-    mode.style = PAINT_ON;
-    mode.text = 0;
-    mode.mark = 0;
-    mode
+    Mode {
+        style: PAINT_ON,
+        text: 0,
+        mark: 0,
+        ..mode
+    }
 }
 
 // Text starts, for TR and RTD alike.
-pub fn text(mut mode: Mode) -> Mode
+#[tactic(auto, unfolding(crate::specs::Styles::text_of))]
+pub fn text(mode: Mode) -> Mode
     ensures { (d : List ℕ) → captions result d ≡ text_of (captions mode d) }
 {
-    mode.text = 1;
-    mode
+    Mode { text: 1, ..mode }
 }
 
+// That EDM and ENM are two functions stays as it is: what they share is `page::empty_all`, and a function with the memory as a parameter would be that call again.
+#[tactic(auto, unfolding(crate::specs::Styles::edm_of))]
 pub fn edm(mode: Mode, cells: &mut [u8]) -> Mode
     requires { Sound (captions mode cells.old) }
     ensures { captions result cells.new ≡ edm_of (captions mode cells.old) }
@@ -41,6 +49,7 @@ pub fn edm(mode: Mode, cells: &mut [u8]) -> Mode
     mode
 }
 
+#[tactic(auto, unfolding(crate::specs::Styles::enm_of))]
 pub fn enm(mode: Mode, cells: &mut [u8]) -> Mode
     requires { Sound (captions mode cells.old) }
     ensures { captions result cells.new ≡ enm_of (captions mode cells.old) }
@@ -49,13 +58,16 @@ pub fn enm(mode: Mode, cells: &mut [u8]) -> Mode
     mode
 }
 
-pub fn eoc(mut mode: Mode, cells: &mut [u8]) -> Mode
+#[tactic(auto, unfolding(crate::specs::Styles::eoc_of))]
+pub fn eoc(mode: Mode, cells: &mut [u8]) -> Mode
     requires { Sound (captions mode cells.old) }
     ensures { captions result cells.new ≡ eoc_of (captions mode cells.old) }
 {
     page::exchange(cells);
-    mode.style = POP_ON;
-    mode.text = 0;
-    mode.mark = 0;
-    mode
+    Mode {
+        style: POP_ON,
+        text: 0,
+        mark: 0,
+        ..mode
+    }
 }

@@ -1,4 +1,5 @@
 -- The laws of `tape` that others cite, and what they rest on.
+pub mod Channels
 pub mod LawsOfPairs
 pub mod LawsOfLoading
 pub mod LawsOfCodes

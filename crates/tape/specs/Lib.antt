@@ -1,4 +1,5 @@
--- The definitions of `tape`, in reading order: the pairs of an item, the preamble of a row, which screens are writable, the tape of a screen, a programme of screens, and the kinds of pairs.
+-- The definitions of `tape`, in reading order: the channels, the pairs of an item, the preamble of a row, which screens are writable, the tape of a screen, a programme of screens, and the kinds of pairs.
+pub mod Channel
 pub mod Item
 pub mod Preamble
 pub mod Writable

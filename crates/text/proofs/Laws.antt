@@ -1,5 +1,6 @@
 -- A pair of text while none is expected is two codes typed; with the style's cursor in hand, it moves that cursor and writes its memory's cells.
 -- Assumes nothing.
+use Rattle.std.specs.Prelude.{Option, Some, None}
 use mathlib.Core.Path.{◌≡◌, refl, ap, sym, ◌∙◌}
 use mathlib.Core.Bool.{Bool, true, false, ◌&&◌}
 use mathlib.Core.List.{List}
@@ -29,14 +30,14 @@ unfolding is_text pair_of rule_one_of rule_two_of rule_four_of text_code_of
 text_pair d x y t e = go (is_good x)
   where
     go : (g : Bool) → pick g (pick (ltb (low_seven x) 0x10) (rule_two_of d y) (pick (ltb (low_seven x) 0x20) (rule_three_of d (low_seven x) y) (rule_four_of d (low_seven x) y))) (rule_one_of d y)
-        ≡ type_any_of (type_any_of (cleared_of d) (pick g (pick (ltb (low_seven x) 0x20) 0 (low_seven x)) 0x7f)) (text_code_of y)
+        ≡ type_any_of (type_any_of (cleared_of d) (pick g (pick (ltb (low_seven x) 0x20) None (Some (low_seven x))) (Some 0x7f))) (text_code_of y)
     go true =
         or_cases (ltb (low_seven x) 0x10) t
         (λ u. let low = ltb-true (low_seven x) 0x10 u in rw (u, lt-ltb (low_seven x) 0x20 (omega arith)) (sym (none_then_text (cleared_of d) y)))
         (λ u.
         let high = leb-true 0x20 (low_seven x) u in
-        rw (le-ltb (low_seven x) 0x10 (omega arith), le-ltb (low_seven x) 0x20 high) (sym (code_then_text (cleared_of d) (low_seven x) y (omega arith))))
-    go false = rw (ap (λ (k : ℕ). leb 1 k) e) (sym (code_then_text (cleared_of d) 0x7f y (omega arith)))
+        rw (le-ltb (low_seven x) 0x10 (omega arith), le-ltb (low_seven x) 0x20 high) (sym (code_then_text (cleared_of d) (low_seven x) y)))
+    go false = rw (ap (λ (k : ℕ). leb 1 k) e) (sym (code_then_text (cleared_of d) 0x7f y))
 
 -- behind none of them, and where no pair is expected, it is the state itself
 pub typed_of_none : (s : State) → is_none_expected s ≡ true → typed_of s (cursor_of s.mode) 0 ≡ s
@@ -47,10 +48,10 @@ typed_of_none s t =
 
 -- One pair of text more.
 module _ (s : State) (c : Cursor) (n : ℕ) (d : List ℕ) (x y : ℕ) (t : is_text x ≡ true) where
-  abbrev one : ℕ
+  abbrev one : Option ℕ
   one = text_code_of x
 
-  abbrev two : ℕ
+  abbrev two : Option ℕ
   two = text_code_of y
 
   abbrev memory : ℕ

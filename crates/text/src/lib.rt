@@ -19,6 +19,7 @@ pub fn is_none_expected(state: State) -> bool
 }
 
 // Whether a pair with this first byte is text. A bad one with a from 10h to 1Fh is left out, so that no bits are counted.
+#[tactic(auto, unfolding(crate::specs::Typed::is_text))]
 pub fn is_text(x: u8) -> bool
     ensures { result ≡ is_text x }
 {
@@ -28,13 +29,13 @@ pub fn is_text(x: u8) -> bool
 
 // A pair of text while none is expected, with the style's cursor in hand: the cursor behind it. Of the state nothing else changes but the
 // count. The second byte is looked at once the first is written, which takes fewer registers.
+#[tactic(auto, using(typing::proofs::Laws::passed_of_keeps_placed, typing::proofs::Laws::length_put_of))]
 pub fn type_text(start: State, cells: &mut [u8], at: Cursor, x: u8, y: u8) -> Cursor
     requires { Ranged start.mode × (length cells.old ≡ 1920) × Placed at × (is_text x ≡ true) }
     ensures { Placed result × ((n : ℕ) → desk (typed_of start result (n + 1)) cells.new ≡ taken_of (desk (typed_of start at n) cells.old) x y) }
 {
     if decode::is_open(start) {
-        let mode = start.mode;
-        let memory = mode.memory();
+        let memory = start.mode.memory();
         let between = typing::put(cells, memory, at, decode::text_code(x));
         return typing::put(cells, memory, between, decode::text_code(y));
     }
@@ -46,14 +47,11 @@ pub fn typed(start: State, cursor: Cursor, n: u16) -> State
     requires { start.acts + n < 65536 }
     ensures { result ≡ typed_of start cursor n }
 {
-    let mode = start.mode;
-    let next = mode.with_cursor(cursor);
     State {
         acts: start.acts + n,
-        selected: start.selected,
-        stream: start.stream,
         first: 0,
         second: 0,
-        mode: next,
+        mode: start.mode.with_cursor(cursor),
+        ..start
     }
 }

@@ -1,99 +1,89 @@
 // The characters of a text: letters that stand for themselves, and those in braces by name or by cell code.
-ghost use Rattle.std.specs.Prelude.{◌≡◌, ◌≤◌, ◌<◌, length};
+ghost use Rattle.std.specs.Prelude.{◌≤◌, length, IfSome};
 
-use crate::{words, wrong};
+use crate::wrong::Wrong;
+use crate::{SIZE, words};
 
-// A character's cell code, 0 where line 21 has none such, and where the next one begins.
-#[derive(Clone, Copy)]
-struct Letter {
-    code: u8,
-    next: usize,
-}
+// The characters that have a name, by their cell codes.
+const NAMES: [(&[u8], u8); 26] = [
+    (b"a-acute", 0x2a),
+    (b"e-acute", 0x5c),
+    (b"i-acute", 0x5e),
+    (b"o-acute", 0x5f),
+    (b"u-acute", 0x60),
+    (b"c-cedilla", 0x7b),
+    (b"divide", 0x7c),
+    (b"N-tilde", 0x7d),
+    (b"n-tilde", 0x7e),
+    (b"block", 0x7f),
+    (b"registered", 0x90),
+    (b"degree", 0x91),
+    (b"half", 0x92),
+    (b"question", 0x93),
+    (b"trademark", 0x94),
+    (b"cent", 0x95),
+    (b"pound", 0x96),
+    (b"note", 0x97),
+    (b"a-grave", 0x98),
+    (b"transparent", 0x99),
+    (b"e-grave", 0x9a),
+    (b"a-circumflex", 0x9b),
+    (b"e-circumflex", 0x9c),
+    (b"i-circumflex", 0x9d),
+    (b"o-circumflex", 0x9e),
+    (b"u-circumflex", 0x9f),
+];
 
 // The letters that line 21 has at the same place as ASCII.
-fn plain(byte: u8) -> u8 {
-    if (b' ' <= byte) & (byte <= b'z') & (words::find(b"*\\^_`", 0, byte) == 5) {
-        return byte;
+fn plain(byte: u8) -> Option<u8> {
+    match byte {
+        b'*' | b'\\' | b'^' | b'_' | b'`' => None,
+        b' '..=b'z' => Some(byte),
+        _ => None,
     }
-    0
 }
 
-// The characters of line 21 by their codes.
-fn coded(code: usize) -> u8 {
-    if ((0x20 <= code) & (code <= 0x7f)) | ((0x90 <= code) & (code <= 0x9f)) {
-        return (code % 256) as u8;
+// What stands between braces: two digits 0-9 A-F that are the code of a character, or a name.
+fn braced(name: &[u8]) -> Option<u8> {
+    match name {
+        [high, low] => words::hex(*high, *low).filter(
+            |code| matches!(*code, 0x20..=0x7f | 0x90..=0x9f),
+        ),
+        _ => words::named(&NAMES, name),
     }
-    0
 }
 
-// What stands between braces: two digits 0-9 A-F, or a name.
-fn braced(name: &[u8]) -> u8 {
-    if name.len() == 2 {
-        return coded(words::hex(name[0], name[1]));
-    }
-    coded(words::named(
-        b"2Aa-acute 5Ce-acute 5Ei-acute 5Fo-acute 60u-acute \
-          7Bc-cedilla 7Cdivide 7DN-tilde 7En-tilde 7Fblock \
-          90registered 91degree 92half 93question 94trademark 95cent 96pound 97note 98a-grave 99transparent \
-          9Ae-grave 9Ba-circumflex 9Ce-circumflex 9Di-circumflex 9Eo-circumflex 9Fu-circumflex",
-        name,
-    ))
-}
-
-// The character that begins at a place.
-fn next(text: &[u8], at: usize) -> Letter
-    requires { at < length text.now }
-    ensures { (at < result.next) × (result.next ≤ length text.now) }
+// The cell code of the character that begins with a byte, and what stands behind it.
+fn next(first: u8, rest: &[u8]) -> Option<(u8, &[u8])>
+    ensures { IfSome result (λ letter. length letter.1.now ≤ length rest.now) }
 {
-    let from = at + 1;
-    if text[at] == b'{' {
-        let end = words::find(text, from, b'}');
-        if end < text.len() {
-            return Letter {
-                code: braced(&text[from..end]),
-                next: end + 1,
-            };
-        }
-        return Letter { code: 0, next: end };
+    if first != b'{' {
+        return Some((plain(first)?, rest));
     }
-    Letter {
-        code: plain(text[at]),
-        next: from,
-    }
+    let end = rest.iter().position(|byte| *byte == b'}')?;
+    Some((braced(&rest[..end])?, &rest[end + 1..]))
 }
 
-// One code more, from byte 8 on, and byte 4 is how many there are. A step has room for 32; 33 stands for any more.
-fn put(step: &mut [u8], n: usize, code: u8) -> usize
-    requires { length step.old ≡ 40 }
-    ensures { result ≤ 33 }
+// What stands behind the pen, and one space of it parts the two: the codes of the text stand from byte 8 of a step on, and byte 4 is how many there are.
+pub fn put_text(rest: &[u8], step: &mut [u8; SIZE], column: usize) -> Result<(), Wrong>
+    requires { column ≤ 32 }
 {
-    if n < 32 {
-        step[8 + n] = code;
-        step[4] = (n + 1) as u8;
-        return n + 1;
-    }
-    33
-}
-
-// The text behind a pen into a step, from a column on; 0, or what is wrong.
-pub fn put_text(line: &[u8], pen: usize, step: &mut [u8], column: usize) -> u8
-    requires { (pen ≤ length line.now) × (column ≤ 32) × (length step.old ≡ 40) }
-{
-    if line.len() - pen < 2 {
-        return wrong::NO_TEXT;
-    }
+    let mut text = rest
+        .get(1..)
+        .filter(|text| !text.is_empty())
+        .ok_or(Wrong::NoText)?;
     let mut n = 0;
-    let mut at = pen + 1;
-    while at < line.len() {
-        let l = next(line, at);
-        if l.code == 0 {
-            return wrong::NO_LETTER;
+    while let Some((first, rest)) = text.split_first() {
+        let (code, rest) = next(*first, rest).ok_or(Wrong::NoLetter)?;
+        if n < 32 {
+            step[8 + n] = code;
         }
-        n = put(step, n, l.code);
-        at = l.next;
+        n += 1;
+        text = rest;
     }
     if 33 < column + n {
-        return wrong::TOO_LONG;
+        return Err(Wrong::TooLong);
     }
-    0
+    step[4] = n as u8;
+    Ok(())
 }

@@ -2,12 +2,12 @@
 #![tactic(auto)]
 
 mod letters;
-pub mod words;
-pub mod wrong;
+mod words;
+mod wrong;
 
-ghost use Rattle.std.specs.Prelude.{◌≡◌, ◌/◌, ◌≤◌, ◌<◌, length};
+ghost use Rattle.std.specs.Prelude.{◌≡◌, ◌/◌, ◌≤◌, ◌<◌, length, IfOk};
 
-use words::NONE;
+pub use wrong::Wrong;
 
 // How many bytes a step has.
 pub const SIZE: usize = 40;
@@ -15,201 +15,145 @@ pub const SIZE: usize = 40;
 // How many steps a script has room for.
 const MOST: usize = 8192;
 
-// The kinds of a step are 1 to 5.
-const PUT: usize = 1;
-
-const WAIT: usize = 4;
-
-const CHANNEL: usize = 5;
-
-// How many steps there are, how many lines were read, and what is wrong with the last of them, 0 for nothing.
+// The kinds of a step.
 #[derive(Clone, Copy)]
+enum Kind {
+    Put = 1,
+    Show = 2,
+    Clear = 3,
+    Wait = 4,
+    Channel = 5,
+}
+
+// The kinds that have a number, each by its word: the least number that it takes and the most, 0 where nothing stands behind the word, and
+// what is wrong with any other.
+const NUMBERED: [(&[u8], (Kind, u16, u16, Wrong)); 4] = [
+    (b"show", (Kind::Show, 0, 16000, Wrong::NoFrame)),
+    (b"clear", (Kind::Clear, 0, 16000, Wrong::NoFrame)),
+    (b"wait", (Kind::Wait, 1, 16000, Wrong::NoWait)),
+    (b"channel", (Kind::Channel, 1, 2, Wrong::NoChannel)),
+];
+
+// The pens, each of which is underlined too where `-u` stands behind its name.
+const PENS: [(&[u8], u8); 8] = [
+    (b"white", 0),
+    (b"green", 1),
+    (b"blue", 2),
+    (b"cyan", 3),
+    (b"red", 4),
+    (b"yellow", 5),
+    (b"magenta", 6),
+    (b"italics", 8),
+];
+
+const UNDERLINED: u8 = 0x10;
+
+// How many steps there are, and the line that ended the reading, with what is wrong with it; lines are counted from 1.
+#[derive(Clone, Copy, Debug, PartialEq, Eq)]
 pub struct Reading {
     pub steps: usize,
-    pub lines: usize,
-    pub wrong: u8,
+    pub wrong: Option<(usize, Wrong)>,
 }
 
-// The one number that stands behind a word: 0 where nothing does.
-fn number_behind(line: &[u8], at: usize) -> usize
-    requires { at ≤ length line.now }
-    ensures { result ≤ 100000 }
-{
-    if words::pass(line, at, true) == line.len() {
-        return 0;
-    }
-    let n = words::next_number(line, at);
-    if (n.value == 0) | (words::pass(line, n.end, true) < line.len()) {
-        return NONE;
-    }
-    n.value
+// The kind of a step, its number or its row and column, its pen, and the line where it was typed, low byte first.
+fn start(kind: Kind, number: [u8; 2], pen: u8, line: usize) -> [u8; SIZE] {
+    let mut step = [0u8; SIZE];
+    step[0] = kind as u8;
+    step[1..3].copy_from_slice(&number);
+    step[3] = pen;
+    step[5..8].copy_from_slice(&line.to_le_bytes()[..3]);
+    step
 }
 
-// The kind of a step, its number or its row and column, and its pen.
-fn put_start(step: &mut [u8], kind: usize, low: usize, high: usize, pen: usize)
-    requires { length step.old ≡ 40 }
-{
-    step[0] = (kind % 256) as u8;
-    step[1] = (low % 256) as u8;
-    step[2] = (high % 256) as u8;
-    step[3] = (pen % 256) as u8;
+// The one number behind a word: 0 where nothing stands there, and none where what does is a 0, no number of two bytes, or more than that.
+fn number_behind(rest: &[u8]) -> Option<u16> {
+    let (word, rest) = words::next(rest);
+    if word.is_empty() {
+        return Some(0);
+    }
+    let n = words::number(word).and_then(|n| u16::try_from(n).ok())?;
+    (n != 0 && words::is_blank(rest)).then_some(n)
 }
 
-// A step that has a number: `show` and `clear` may do without, and a channel is 1 or 2.
-fn put_number(step: &mut [u8], kind: usize, n: usize) -> u8
-    requires { (length step.old ≡ 40) × (kind ≤ 100000) }
-{
-    if (16000 < n) | ((WAIT <= kind) & (n < 1)) | ((CHANNEL <= kind) & (2 < n)) {
-        return ((wrong::NO_NUMBER + kind) % 256) as u8;
+fn pen(name: &[u8]) -> Option<u8> {
+    match name.strip_suffix(b"-u") {
+        Some(plain) => words::named(&PENS, plain).map(|pen| pen | UNDERLINED),
+        None => words::named(&PENS, name),
     }
-    put_start(step, kind, n, n / 256, 0);
-    0
 }
 
 // Characters side by side: what stands behind the row.
-fn put_row(line: &[u8], at: usize, step: &mut [u8], row: usize) -> u8
-    requires { (at ≤ length line.now) × (length step.old ≡ 40) }
-{
-    if (row < 1) | (15 < row) {
-        return wrong::NO_ROW;
+fn put(row: u32, rest: &[u8], line: usize) -> Result<[u8; SIZE], Wrong> {
+    if !(1..=15).contains(&row) {
+        return Err(Wrong::NoRow);
     }
-    let column = words::next_number(line, at);
-    if column.value < 1 {
-        return wrong::NO_COLUMN;
-    }
-    if 32 < column.value {
-        return wrong::NO_COLUMN;
-    }
-    let pen = words::next_name(
-        line,
-        column.end,
-        b"00white 01green 02blue 03cyan 04red 05yellow 06magenta 08italics \
-          10white-u 11green-u 12blue-u 13cyan-u 14red-u 15yellow-u 16magenta-u 18italics-u",
-    );
-    if pen.value == NONE {
-        return wrong::NO_PEN;
-    }
-    put_start(step, PUT, row, column.value, pen.value);
-    letters::put_text(line, pen.end, step, column.value)
+    let (word, rest) = words::next(rest);
+    let column = words::number(word)
+        .filter(|column| (1..=32).contains(column))
+        .ok_or(Wrong::NoColumn)?;
+    let (word, rest) = words::next(rest);
+    let pen = pen(word).ok_or(Wrong::NoPen)?;
+    let mut step = start(Kind::Put, [row as u8, column as u8], pen, line);
+    letters::put_text(rest, &mut step, column as usize)?;
+    Ok(step)
 }
 
-// The line where a step was typed, low byte first.
-fn put_line(step: &mut [u8], line: usize)
-    requires { length step.old ≡ 40 }
-{
-    step[5] = (line % 256) as u8;
-    step[6] = (line / 256 % 256) as u8;
-    step[7] = (line / 65536 % 256) as u8;
+// The step of a line that is not passed over.
+fn step(text: &[u8], line: usize) -> Result<[u8; SIZE], Wrong> {
+    let (word, rest) = words::next(text);
+    let Some((kind, least, most, wrong)) = words::named(&NUMBERED, word) else {
+        let row = words::number(word).ok_or(Wrong::NoStep)?;
+        return put(row, rest, line);
+    };
+    let n = number_behind(rest)
+        .filter(|n| (least..=most).contains(n))
+        .ok_or(wrong)?;
+    Ok(start(kind, n.to_le_bytes(), 0, line))
 }
 
-// A line that is not passed over.
-fn put_step(line: &[u8], number: usize, step: &mut [u8]) -> u8
-    requires { length step.old ≡ 40 }
-{
-    put_line(step, number);
-    let kind = words::next_name(line, 0, b"02show 03clear 04wait 05channel");
-    if kind.value < NONE {
-        return put_number(step, kind.value, number_behind(line, kind.end));
-    }
-    let row = words::next_number(line, 0);
-    if row.value == NONE {
-        return wrong::NO_STEP;
-    }
-    put_row(line, row.end, step, row.value)
-}
-
-// One line more.
-fn add_line(line: &[u8], number: usize, script: &mut [u8], steps: usize) -> Reading
+// The step of a line behind those that there are; gives how many there are then.
+fn add_step(text: &[u8], line: usize, script: &mut [u8], steps: usize) -> Result<usize, Wrong>
     requires { (length script.old ≡ 327680) × (steps ≤ 8192) }
-    ensures { result.steps ≤ 8192 }
+    ensures { IfOk result (λ n. n ≤ 8192) }
 {
-    let from = words::pass(line, 0, true);
-    if from == line.len() {
-        return Reading {
-            steps,
-            lines: number,
-            wrong: 0,
-        };
-    }
-    if line[from] == b'#' {
-        return Reading {
-            steps,
-            lines: number,
-            wrong: 0,
-        };
-    }
     if steps == MOST {
-        return Reading {
-            steps,
-            lines: number,
-            wrong: wrong::TOO_MANY_STEPS,
-        };
+        return Err(Wrong::TooManySteps);
     }
+    let step = step(text, line)?;
     let at = steps * SIZE;
-    let end = at + SIZE;
-    let wrong = put_step(line, number, &mut script[at..end]);
-    if wrong == 0 {
-        return Reading {
-            steps: steps + 1,
-            lines: number,
-            wrong: 0,
-        };
-    }
-    Reading {
-        steps,
-        lines: number,
-        wrong,
-    }
+    script[at..at + SIZE].copy_from_slice(&step);
+    Ok(steps + 1)
 }
 
-// Where a line ends that is followed by a line feed or nothing: a CR is no part of it.
-fn end_of(text: &[u8], from: usize, feed: usize) -> usize
-    requires { (from ≤ feed) × (feed ≤ length text.now) }
-    ensures { (from ≤ result) × (result ≤ length text.now) }
-{
-    if from < feed {
-        if text[feed - 1] == b'\r' {
-            return feed - 1;
-        }
-    }
-    feed
-}
-
-// Line after line, up to the first that is no step.
+// Line after line, up to the first that is no step. A CR at a line's end is no part of it.
 pub fn read(text: &[u8], script: &mut [u8]) -> Reading
     requires { length script.old ≡ 327680 }
     ensures { result.steps ≤ 8192 }
 {
-    let mut r = Reading {
-        steps: 0,
-        lines: 0,
-        wrong: 0,
-    };
-    let mut number = 0;
-    let mut at = 0;
-    while at < text.len() {
-        let feed = words::find(text, at, b'\n');
-        let end = end_of(text, at, feed);
-        number += 1;
-        r = add_line(&text[at..end], number, script, r.steps);
-        if r.wrong != 0 {
-            return r;
+    let mut steps = 0;
+    for (i, line) in text.split(|byte| *byte == b'\n').enumerate() {
+        let line = line.strip_suffix(b"\r").unwrap_or(line);
+        // Blank lines, and those whose first word begins with `#`, are passed over.
+        if matches!(words::next(line).0, [] | [b'#', ..]) {
+            continue;
         }
-        at = feed + 1;
+        match add_step(line, i + 1, script, steps) {
+            Ok(n) => steps = n,
+            Err(wrong) => {
+                return Reading {
+                    steps,
+                    wrong: Some((i + 1, wrong)),
+                };
+            }
+        }
     }
-    r
-}
-
-fn wide(byte: u8) -> u64
-    ensures { result < 256 }
-{
-    byte as u64
+    Reading { steps, wrong: None }
 }
 
 // The line where a step was typed.
 pub fn line_of(script: &[u8], step: usize) -> u64
     requires { step < length script.now / 40 }
 {
-    let at = step * SIZE;
-    wide(script[at + 5]) + wide(script[at + 6]) * 256 + wide(script[at + 7]) * 65536
+    let at = step * SIZE + 5;
+    u64::from(u32::from_le_bytes([script[at], script[at + 1], script[at + 2], 0]))
 }

@@ -10,17 +10,18 @@ ghost use Rattle.standing.specs.Calls.{is_replayable, restored_of, replay_of};
 ghost use Rattle.replay.specs.Captions.{caption_decoder};
 ghost use Rattle.tray.specs.Given.{Ready, Given};
 
+use replay::Entry;
 use state::State;
 
 // The three bytes of an act, behind those that stand.
-pub fn write_act(log: &mut [u8], acts: u16, kind: u8, first: u8, second: u8)
+pub fn write_act(log: &mut [u8], acts: u16, act: Entry)
     requires { acts * 3 + 3 ≤ length log.old }
-    ensures { log.new ≡ over log.old (acts * 3) (kind ∷ first ∷ second ∷ []) }
+    ensures { log.new ≡ over log.old (acts * 3) (act.kind ∷ act.first ∷ act.second ∷ []) }
 {
     let at = (acts as usize) * 3;
-    log[at] = kind;
-    log[at + 1] = first;
-    log[at + 2] = second;
+    log[at] = act.kind;
+    log[at + 1] = act.first;
+    log[at + 2] = act.second;
 }
 
 // Whether the desk with m acts to stand can be made: the start, and the acts from there on.
@@ -58,20 +59,12 @@ pub fn restore(desk: &mut [u8], log: &[u8], tray: &[u8], m: usize)
 }
 
 // An act on a desk: its three bytes in the log, its record in place, its slot where one is due.
-pub fn give(
-    desk: &mut [u8],
-    log: &mut [u8],
-    tray: &mut [u8],
-    state: State,
-    kind: u8,
-    first: u8,
-    second: u8,
-) -> u16
-    requires { Ready desk.old log.old tray.old × (state ≡ state_of desk.old) × (is_formed kind first second ≡ true) }
-    ensures { Given desk.old log.old tray.old kind first second result desk.new log.new tray.new }
+pub fn give(desk: &mut [u8], log: &mut [u8], tray: &mut [u8], state: State, act: Entry) -> u16
+    requires { Ready desk.old log.old tray.old × (state ≡ state_of desk.old) × (is_formed act.kind act.first act.second ≡ true) }
+    ensures { Given desk.old log.old tray.old act.kind act.first act.second result desk.new log.new tray.new }
 {
     let acts = state.acts;
-    write_act(log, acts, kind, first, second);
+    write_act(log, acts, act);
     let next = replay_in_place(desk, state, log, acts as usize, 1);
     slots::keep(tray, next, &desk[64..1984]);
     next.acts

@@ -1,13 +1,11 @@
 -- What is written at the cursor keeps sound captions sound; two codes one after the other. Assumes nothing.
 use mathlib.Core.Path.{◌≡◌, refl, ap, ◌∙◌}
-use mathlib.Core.Bool.{Bool, true, false}
+use mathlib.Core.Bool.{true}
+use Rattle.std.specs.Prelude.{Option, Some, None}
 use mathlib.Core.List.{List}
 use Prim.Native.Nat.{ℕ, ◌≤◌}
 use native.Mathlib.Omega.{arith}
-use lib.Dec.{eqb}
 use lib.ListN.{length}
-use Rattle.facts.specs.Choice.{pick}
-use Rattle.facts.proofs.Choice.{pick_cases}
 use Rattle.cell.specs.declared.Cursor.{Cursor}
 use Rattle.cell.specs.Pen.{is_pen}
 use Rattle.cell.specs.Code.{is_code}
@@ -58,11 +56,17 @@ module _ (d : Captions) (h : Sound d) where
             (kept_in (is_cell_of_lem code c.pen e low placed.pen) at.inside) h.cells);
       }
 
+-- the style's cursor with another pen
+pub with_pen_of_sound : (d : Captions) → Sound d → (pen : ℕ) → is_pen pen ≡ true → Sound (captions (with_cursor d.mode (with_pen (cursor_of d.mode) pen)) d.cells)
+unfolding turned_of
+with_pen_of_sound d h pen p =
+    let at = cursor_of d.mode in
+    turned_of_sound d h (with_pen at pen) (with_pen_keeps_placed at (placed d h) pen p) refl
+
 pub attribute_of_sound : (d : Captions) (pen : ℕ) → is_pen pen ≡ true → 1 ≤ d.mode.style → Sound d → Sound (attribute_of d pen)
 unfolding attribute_of turned_of with_cursor is_code
 attribute_of_sound d pen p live h =
-    write_of_sound (turned_of d (with_pen (cursor_of d.mode) pen))
-    (turned_of_sound d h (with_pen (cursor_of d.mode) pen) (with_pen_keeps_placed (cursor_of d.mode) (placed d h) pen p) refl) 0x80 refl (omega arith) live
+    write_of_sound (turned_of d (with_pen (cursor_of d.mode) pen)) (with_pen_of_sound d h pen p) 0x80 refl (omega arith) live
 
 module _ (d : Captions) (h : Sound d) (live : 1 ≤ d.mode.style) where
   pub mid_row_of_sound : (b : ℕ) → 0x20 ≤ b → b ≤ 0x2f → Sound (mid_row_of d b)
@@ -76,38 +80,33 @@ module _ (d : Captions) (h : Sound d) (live : 1 ≤ d.mode.style) where
 -- Two codes one after the other.
 
 -- what is written leaves style and Text alone
-pub is_ready-write_any_of : (d : Captions) (code : ℕ) → is_ready (write_any_of d code).mode ≡ is_ready d.mode
-unfolding write_any_of write_of
-is_ready-write_any_of d code =
-    pick_cases (λ (x : Captions). is_ready x.mode ≡ is_ready d.mode) (eqb code 0) (λ t. refl) (λ t. is_ready-with_cursor d.mode (after_write_of (cursor_of d.mode)))
+pub is_ready-write_any_of : (d : Captions) (code : Option ℕ) → is_ready (write_any_of d code).mode ≡ is_ready d.mode
+unfolding write_of
+is_ready-write_any_of d None = refl
+is_ready-write_any_of d (Some code) = is_ready-with_cursor d.mode (after_write_of (cursor_of d.mode))
 
 -- the cursor that a code leaves, and the length of the cells
-pub passed_of_keeps_placed : (c : Cursor) (code : ℕ) → Placed c → Placed (passed_of c code)
-unfolding passed_of
-passed_of_keeps_placed c code h = pick_cases Placed (eqb code 0) (λ t. h) (λ t. after_write_of_keeps_placed c h)
+pub passed_of_keeps_placed : (c : Cursor) (code : Option ℕ) → Placed c → Placed (passed_of c code)
+passed_of_keeps_placed c None h = h
+passed_of_keeps_placed c (Some code) h = after_write_of_keeps_placed c h
 
-pub length_put_of : (d : List ℕ) (memory : ℕ) (c : Cursor) (code : ℕ) → length (put_of d memory c code) ≡ length d
-unfolding put_of
-length_put_of d memory c code =
-    pick_cases (λ (l : List ℕ). length l ≡ length d) (eqb code 0) (λ t. refl) (λ t. length-write_cell_of d memory c.row c.column code c.pen)
+pub length_put_of : (d : List ℕ) (memory : ℕ) (c : Cursor) (code : Option ℕ) → length (put_of d memory c code) ≡ length d
+length_put_of d memory c None = refl
+length_put_of d memory c (Some code) = length-write_cell_of d memory c.row c.column code c.pen
 
 -- with a style set, a code is written at the cursor that was set last
-pub write_any_of_at : (m : Mode) (d : List ℕ) (c : Cursor) (code : ℕ) → 1 ≤ m.style → m.style ≤ 3
+pub write_any_of_at : (m : Mode) (d : List ℕ) (c : Cursor) (code : Option ℕ) → 1 ≤ m.style → m.style ≤ 3
     → write_any_of (captions (with_cursor m c) d) code ≡ captions (with_cursor m (passed_of c code)) (put_of d (memory_of m) c code)
-unfolding write_any_of passed_of put_of write_of
-write_any_of_at m d c code low high = go (eqb code 0)
-  where
-    go : (t : Bool) → pick t (captions (with_cursor m c) d) (write_of (captions (with_cursor m c) d) code)
-        ≡ captions (with_cursor m (pick t c (after_write_of c))) (pick t d (write_cell_of d (memory_of m) c.row c.column code c.pen))
-    go true = refl
-    go false =
-        let e = cursor_of-with_cursor m c low high in
-        let k = memory_of-with_cursor m c in
-        (λ i. captions (with_cursor (with_cursor m c) (after_write_of (e i))) (write_cell_of d (k i) (e i).row (e i).column code (e i).pen))
-        ∙ ap (λ (n : Mode). captions n (write_cell_of d (memory_of m) c.row c.column code c.pen)) (with_cursor_twice m c (after_write_of c))
+unfolding write_of
+write_any_of_at m d c None low high = refl
+write_any_of_at m d c (Some code) low high =
+    let e = cursor_of-with_cursor m c low high in
+    let k = memory_of-with_cursor m c in
+    (λ i. captions (with_cursor (with_cursor m c) (after_write_of (e i))) (write_cell_of d (k i) (e i).row (e i).column code (e i).pen))
+    ∙ ap (λ (n : Mode). captions n (write_cell_of d (memory_of m) c.row c.column code c.pen)) (with_cursor_twice m c (after_write_of c))
 
 -- the style's cursor and memory taken once, and the cursor behind both codes set once
-pub write_any_of_both : (m : Mode) (d : List ℕ) (first second : ℕ) → 1 ≤ m.style → m.style ≤ 3
+pub write_any_of_both : (m : Mode) (d : List ℕ) (first second : Option ℕ) → 1 ≤ m.style → m.style ≤ 3
     → {memory : ℕ} {at between behind : Cursor} {one two : List ℕ} {n : Mode} → memory ≡ memory_of m → at ≡ cursor_of m
     → (between ≡ passed_of at first) × (one ≡ put_of d memory at first) → (behind ≡ passed_of between second) × (two ≡ put_of one memory between second)
     → n ≡ with_cursor m behind → captions n two ≡ write_any_of (write_any_of (captions m d) first) second

@@ -1,8 +1,7 @@
 -- What is written at the style's cursor: characters and attribute spaces.
 -- Paper 01, "What the codes do": write and FON; "Codes": mid-row; 47 CFR 15.119 (f) and (h).
 -- Assumes nothing.
-use Rattle.std.specs.Prelude.{ℕ, List, eqb}
-use Rattle.facts.specs.Choice.{pick}
+use Rattle.std.specs.Prelude.{ℕ, List, Option, Some, None}
 use Rattle.cell.specs.declared.Cursor.{Cursor}
 use Rattle.cell.specs.Pen.{mid_row_pen_of, flash_pen_of}
 use Rattle.cell.specs.Cursor.{with_pen, after_write_of}
@@ -16,16 +15,19 @@ write_of d code =
     let c = cursor_of d.mode in
     captions (with_cursor d.mode (after_write_of c)) (write_cell_of d.cells (memory_of d.mode) c.row c.column code c.pen)
 
--- a code written if there is any; 0 is none
-unfoldable pub write_any_of : Captions → ℕ → Captions
-write_any_of d code = pick (eqb code 0) d (write_of d code)
+-- a code written if there is any
+abbrev pub write_any_of : Captions → Option ℕ → Captions
+write_any_of d None = d
+write_any_of d (Some code) = write_of d code
 
 -- the same in two parts, at a cursor that is in hand: where the cursor goes, and what the cells of its memory become
-unfoldable pub passed_of : Cursor → ℕ → Cursor
-passed_of c code = pick (eqb code 0) c (after_write_of c)
+abbrev pub passed_of : Cursor → Option ℕ → Cursor
+passed_of c None = c
+passed_of c (Some code) = after_write_of c
 
-unfoldable pub put_of : List ℕ → ℕ → Cursor → ℕ → List ℕ
-put_of d memory c code = pick (eqb code 0) d (write_cell_of d memory c.row c.column code c.pen)
+abbrev pub put_of : List ℕ → ℕ → Cursor → Option ℕ → List ℕ
+put_of d memory c None = d
+put_of d memory c (Some code) = write_cell_of d memory c.row c.column code c.pen
 
 -- the style's cursor is another; the cells stay
 unfoldable pub turned_of : Captions → Cursor → Captions

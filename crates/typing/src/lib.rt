@@ -1,4 +1,5 @@
 // What is written at the style's cursor.
+// The pair of mode and cells stays as it is: two parameters and not one struct, for the reasons that stand at the head of `acts`.
 #![tactic(auto)]
 
 ghost use Rattle.std.specs.Prelude.{◌≡◌, true, ◌≤◌};
@@ -14,33 +15,33 @@ use cell::pens::{flash_pen, mid_row_pen};
 use state::Mode;
 
 // The cell gets code and pen; the cursor goes on.
+#[tactic(auto, unfolding(crate::specs::Typing::write_of))]
 pub fn write(mode: Mode, cells: &mut [u8], code: u8) -> Mode
     requires { Sound (captions mode cells.old) }
     ensures { captions result cells.new ≡ write_of (captions mode cells.old) code }
 {
     let c = mode.cursor();
-    let row = c.row;
-    let column = c.column;
-    page::write_cell(cells, mode.memory(), row, column, code, c.pen);
+    page::write_cell(cells, mode.memory(), c.row, c.column, code, c.pen);
     mode.with_cursor(c.after_write())
 }
 
-// A code in a cursor's cell, if there is any: the cursor behind it. Code 0 is none.
-pub fn put(cells: &mut [u8], memory: usize, at: Cursor, code: u8) -> Cursor
+// A code in a cursor's cell, if there is any: the cursor behind it.
+pub fn put(cells: &mut [u8], memory: usize, at: Cursor, code: Option<u8>) -> Cursor
     requires { Holds memory cells.old × Placed at }
     ensures { (result ≡ passed_of at code) × (cells.new ≡ put_of cells.old memory at code) }
 {
-    if code == 0 {
-        return at;
+    match code {
+        None => at,
+        Some(code) => {
+            page::write_cell(cells, memory, at.row, at.column, code, at.pen);
+            at.after_write()
+        }
     }
-    let row = at.row;
-    let column = at.column;
-    page::write_cell(cells, memory, row, column, code, at.pen);
-    at.after_write()
 }
 
-// Two codes one after the other, code 0 none. The style's cursor is taken once and set once, since most pairs are two characters.
-pub fn write_two(mode: Mode, cells: &mut [u8], first: u8, second: u8) -> Mode
+// Two codes one after the other, as far as there are any. The style's cursor is taken once and set once, since most pairs are two characters.
+#[tactic(auto, using(crate::proofs::Laws::passed_of_keeps_placed, crate::proofs::Laws::length_put_of))]
+pub fn write_two(mode: Mode, cells: &mut [u8], first: Option<u8>, second: Option<u8>) -> Mode
     requires { Sound (captions mode cells.old) × (1 ≤ mode.style) }
     ensures { captions result cells.new ≡ write_any_of (write_any_of (captions mode cells.old) first) second }
 {
@@ -52,6 +53,7 @@ pub fn write_two(mode: Mode, cells: &mut [u8], first: u8, second: u8) -> Mode
 }
 
 // The pen changes, then an attribute space is written with it.
+#[tactic(auto, unfolding(crate::specs::Typing::attribute_of, crate::specs::Typing::turned_of))]
 fn attribute(mode: Mode, cells: &mut [u8], pen: u8) -> Mode
     requires { Sound (captions mode cells.old) × (is_pen pen ≡ true) }
     ensures { captions result cells.new ≡ attribute_of (captions mode cells.old) pen }
@@ -61,6 +63,7 @@ fn attribute(mode: Mode, cells: &mut [u8], pen: u8) -> Mode
     write(turned, cells, 0x80)
 }
 
+#[tactic(auto, unfolding(crate::specs::Typing::mid_row_of))]
 pub fn mid_row(mode: Mode, cells: &mut [u8], b: u8) -> Mode
     requires { Sound (captions mode cells.old) × (0x20 ≤ b) × (b ≤ 0x2f) }
     ensures { captions result cells.new ≡ mid_row_of (captions mode cells.old) b }
@@ -69,6 +72,7 @@ pub fn mid_row(mode: Mode, cells: &mut [u8], b: u8) -> Mode
     attribute(mode, cells, mid_row_pen(c.pen, b))
 }
 
+#[tactic(auto, unfolding(crate::specs::Typing::fon_of))]
 pub fn fon(mode: Mode, cells: &mut [u8]) -> Mode
     requires { Sound (captions mode cells.old) }
     ensures { captions result cells.new ≡ fon_of (captions mode cells.old) }

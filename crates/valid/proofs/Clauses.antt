@@ -22,6 +22,7 @@ use Rattle.state.specs.State.{Desk, Fits}
 use Rattle.state.specs.Ranges.{Ranged}
 use Rattle.decode.specs.Sound.{SoundDesk}
 use Rattle.record.specs.Layout.{state_of, are_counted}
+use Rattle.valid.proofs.LawsOfRanges.{within_low, within_high}
 use Rattle.valid.specs.Valid.{is_within, is_cursor, is_valid_state, is_cell_at, is_in_window, is_windowed, is_valid}
 
 -- A test of many clauses, joined from the left, and each clause by its number.
@@ -39,12 +40,6 @@ all_at b xs e zero = all_first b xs e
 all_at b [] e (suc k) = refl
 all_at b (x ∷ xs) e (suc zero) = and_right b x (all_first (b && x) xs e)
 all_at b (x ∷ xs) e (suc (suc k)) = all_at (b && x) xs e (suc k)
-
-pub within_low : (low high n : ℕ) → is_within low high n ≡ true → low ≤ n
-within_low low high n e = leb-true low n (and_left (leb low n) (leb n high) e)
-
-pub within_high : (low high n : ℕ) → is_within low high n ≡ true → n ≤ high
-within_high low high n e = leb-true n high (and_right (leb low n) (leb n high) e)
 
 -- Cursors.
 

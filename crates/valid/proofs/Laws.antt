@@ -21,7 +21,8 @@ use Rattle.record.specs.Layout.{state_of, record_of, read_of, are_counted, Count
 use Rattle.record.proofs.Laws.{length-record_of, read_of_record_of, record_of-counted, are_counted-record_of, zeros_record_of}
 use Rattle.record.proofs.LawsOfCounts.{are_counted_at}
 use Rattle.valid.specs.Valid.{is_valid}
-use Rattle.valid.proofs.Clauses.{Clauses, is_valid_clauses, clauses_is_valid, is_valid_state_clause, is_valid_state_ranged, is_valid_state_fits, is_valid_state_of, within_low, within_high, windowed_facts, windowed_of}
+use Rattle.valid.proofs.LawsOfRanges.{within_low, within_high}
+use Rattle.valid.proofs.Clauses.{Clauses, is_valid_clauses, clauses_is_valid, is_valid_state_clause, is_valid_state_ranged, is_valid_state_fits, is_valid_state_of, windowed_facts, windowed_of}
 
 pub is_valid-length : (bs : List ℕ) → is_valid bs ≡ true → length bs ≡ 1984
 is_valid-length bs e = (is_valid_clauses bs e).size

@@ -1,4 +1,5 @@
 -- The laws of `valid` that others cite.
+pub mod LawsOfRanges
 pub mod Laws
 pub mod Rows
 mod Clauses

@@ -12,9 +12,7 @@ use state::State;
 fn is_cursor(cursor: Cursor) -> bool
     ensures { result ≡ is_cursor cursor }
 {
-    let row = cursor.row.0;
-    let column = cursor.column.0;
-    ((1 <= row) & (row <= 15)) & ((1 <= column) & (column <= 32)) & is_pen(cursor.pen)
+    (1..=15).contains(&cursor.row.0) & (1..=32).contains(&cursor.column.0) & is_pen(cursor.pen)
 }
 
 // The ranges of the fields, and what mark and style require. One flag: every part is tested.
@@ -22,9 +20,9 @@ fn is_valid_state(state: State) -> bool
     ensures { result ≡ is_valid_state state }
 {
     let mode = state.mode;
-    let deep = (2 <= mode.depth) & (mode.depth <= 4);
+    let deep = (2..=4).contains(&mode.depth);
     (state.acts <= 16000)
-        & ((1 <= state.selected) & (state.selected <= 2))
+        & (1..=2).contains(&state.selected)
         & (state.stream <= 2)
         & (mode.style <= 3)
         & (mode.text <= 1)
@@ -49,11 +47,9 @@ pub fn is_row(bytes: &[u8], at: usize) -> bool
         return true;
     }
     let mut ok = true;
-    let mut j: usize = 0;
-    while j < 32 {
+    for j in 0..32 {
         let k = at + j * 2;
-        ok = ok & is_cell(bytes[k], bytes[k + 1]);
-        j += 1;
+        ok &= is_cell(bytes[k], bytes[k + 1]);
     }
     ok
 }
@@ -74,10 +70,8 @@ fn are_rows(bytes: &[u8]) -> bool
     ensures { result ≡ are_rows bytes.now }
 {
     let mut ok = true;
-    let mut r: usize = 0;
-    while r < 30 {
-        ok = ok & is_counted(bytes, 64 + r * 64, bytes[19 + r]);
-        r += 1;
+    for r in 0..30 {
+        ok &= is_counted(bytes, 64 + r * 64, bytes[19 + r]);
     }
     ok
 }
@@ -87,27 +81,28 @@ fn is_framed(bytes: &[u8], mark: u8, base: Row, depth: u8) -> bool
     requires { (length bytes.now ≡ 1984) × (base.0 ≤ 15) × (mark ≡ 1 → depth ≤ base.0) }
     ensures { result ≡ is_framed bytes.now mark base depth }
 {
-    if mark == 1 {
-        let above = window::rows_above(base, depth);
-        let below = base.0 as usize;
-        return facts::is_blank(bytes, 64, above * 64)
-            & facts::is_blank(bytes, 64 + below * 64, (15 - below) * 64);
+    if mark != 1 {
+        return true;
     }
-    true
+    let above = window::rows_above(base, depth);
+    let below = base.0 as usize;
+    facts::is_blank(bytes, 64, above * 64)
+        & facts::is_blank(bytes, 64 + below * 64, (15 - below) * 64)
 }
 
 // Whether any bytes at all are a valid record.
 pub fn is_valid(bytes: &[u8]) -> bool
     ensures { result ≡ is_valid bytes.now }
 {
-    if bytes.len() == 1984 {
-        let state = record::read_state(bytes);
-        if is_valid_state(state) {
-            let mode = state.mode;
-            return facts::is_blank(bytes, 49, 15)
-                & are_rows(bytes)
-                & is_framed(bytes, mode.mark, mode.roll.row, mode.depth);
-        }
+    if bytes.len() != 1984 {
+        return false;
     }
-    false
+    let state = record::read_state(bytes);
+    if !is_valid_state(state) {
+        return false;
+    }
+    let mode = state.mode;
+    facts::is_blank(bytes, 49, 15)
+        & are_rows(bytes)
+        & is_framed(bytes, mode.mark, mode.roll.row, mode.depth)
 }

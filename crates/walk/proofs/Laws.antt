@@ -2,12 +2,11 @@
 use mathlib.Core.Path.{◌≡◌, refl, ap, sym, ◌∙◌}
 use mathlib.Core.Bool.{Bool, true, false}
 use mathlib.Core.List.{List, [], ◌∷◌, ◌++◌, append_assoc, append-nil}
-use Prim.Native.Nat.{ℕ, suc, ◌+◌, ◌-◌, ◌*◌, ◌≤◌}
+use Prim.Native.Nat.{ℕ, suc, ◌+◌, ◌-◌, ◌*◌}
 use native.Mathlib.Nat.{zero-add, add-zero}
 use native.Mathlib.Omega.{arith}
-use lib.Dec.{eqb}
 use lib.ListN.{length}
-use borrow.Author.Tests.{lt-ltb, le-ltb, ne_eqb}
+use borrow.Author.Tests.{lt-ltb, le-ltb}
 use Rattle.facts.specs.Choice.{pick}
 use Rattle.facts.proofs.Choice.{below_cases}
 use Rattle.wire.specs.declared.Line.{Line}
@@ -21,7 +20,9 @@ use Rattle.runs.specs.Frames.{screen_of, on_pair, screens_from, most, next_of, f
 use Rattle.runs.specs.Runs.{stretches_from, empty_screen, runs_of}
 use Rattle.runs.specs.Register.{text_of, refusal_of, register_of}
 use Rattle.runs.proofs.Laws.{text_of_seen_of}
-use Rattle.walk.specs.Walk.{Place, at_header, at_frames, start_of, stays_of, shown_of, shown_text_of, finish_text_of, headed_of}
+use Rattle.walk.specs.Stage.{at_header, at_frames, by_stage, is_live}
+use Rattle.walk.specs.Walk.{Place, start_of, stays_of, shown_of, shown_text_of, finish_text_of, headed_of}
+use Rattle.walk.proofs.Stages.{by_stage_end}
 
 -- the screens of the frames that are still to come
 abbrev pub coming_of : Place → List ℕ → List (List ℕ)
@@ -35,7 +36,7 @@ body_of p reel =
 
 -- all that is still to come
 unfoldable pub rest_of : Place → List ℕ → List ℕ
-rest_of p reel = pick (eqb p.walk.stage at_header) (header ++ body_of p reel) (pick (eqb p.walk.stage at_frames) (body_of p reel) [])
+rest_of p reel = by_stage p.walk.stage (header ++ body_of p reel) (body_of p reel) []
 
 -- The frames that are to come, by the line that stands next.
 
@@ -87,13 +88,13 @@ module _ (p : Place) (reel : List ℕ) (first second : ℕ) (e : next_of reel p.
       ∙ ap (λ (k : ℕ). text_of (stretches_from p.walk.since frame p.held (s ∷ ss)) ++ refusal_of (length reel) k) count
       ∙ chosen (stays_of p first second) p.walk.since frame p.held s ss (refusal_of (length reel) (frame + 1 + length ss))
 
-  pub rest_shown : p.walk.stage ≡ 1 → rest_of p reel ≡ shown_text_of p first second ++ rest_of (shown_of p first second) reel
+  pub rest_shown : p.walk.stage ≡ at_frames → rest_of p reel ≡ shown_text_of p first second ++ rest_of (shown_of p first second) reel
   unfolding rest_of shown_of
   rest_shown one = simp one body_shown
 
 -- The end, and the header.
 
-pub rest_finish : (p : Place) (reel : List ℕ) → p.walk.stage ≡ 1 → coming_of p reel ≡ [] → rest_of p reel ≡ finish_text_of p.walk p.held (length reel)
+pub rest_finish : (p : Place) (reel : List ℕ) → p.walk.stage ≡ at_frames → coming_of p reel ≡ [] → rest_of p reel ≡ finish_text_of p.walk p.held (length reel)
 unfolding rest_of body_of stretches_from text_of finish_text_of
 rest_finish p reel one none =
     let w = p.walk in
@@ -101,11 +102,11 @@ rest_finish p reel one none =
     (ap (λ (l : List (List ℕ)). text_of (stretches_from w.since w.frame p.held l) ++ refusal_of (length reel) (w.frame + length l)) none
     ∙ (λ i. append-nil (lines_of (run w.since w.frame p.held)) i ++ refusal_of (length reel) (add-zero w.frame i)))
 
-pub rest_none : (p : Place) (reel : List ℕ) → 2 ≤ p.walk.stage → rest_of p reel ≡ []
+pub rest_none : (p : Place) (reel : List ℕ) → is_live p.walk.stage ≡ false → rest_of p reel ≡ []
 unfolding rest_of
-rest_none p reel h = simp (ne_eqb p.walk.stage 0 (λ e. omega arith), ne_eqb p.walk.stage 1 (λ e. omega arith))
+rest_none p reel h = by_stage_end p.walk.stage _ _ h
 
-pub rest_header : (p : Place) (reel : List ℕ) → p.walk.stage ≡ 0 → rest_of p reel ≡ header ++ rest_of (headed_of p) reel
+pub rest_header : (p : Place) (reel : List ℕ) → p.walk.stage ≡ at_header → rest_of p reel ≡ header ++ rest_of (headed_of p) reel
 unfolding rest_of body_of
 rest_header p reel e = simp e
 

@@ -1,6 +1,7 @@
 -- Each step of a walk loses nothing, gives nothing twice, keeps what steps ask, and comes nearer to the end. Assumes nothing.
 use mathlib.Core.Path.{◌≡◌, refl, ap, sym, subst, ◌∙◌}
-use mathlib.Core.Bool.{Bool}
+use mathlib.Core.Logic.{◌⊎◌, ⊎_elim}
+use mathlib.Core.Bool.{Bool, true}
 use mathlib.Core.List.{List, [], ◌++◌, append-nil}
 use Prim.Native.Nat.{ℕ, suc, ◌+◌, ◌*◌, ◌<◌, ◌≤◌}
 use native.Mathlib.Omega.{arith}
@@ -10,7 +11,7 @@ use lib.Seq.{length-take-le}
 use borrow.Author.Tests.{le-leb, lt-leb}
 use Rattle.facts.specs.Choice.{pick}
 use Rattle.facts.specs.Over.{over}
-use Rattle.facts.proofs.Choice.{pick_cases, below_cases}
+use Rattle.facts.proofs.Choice.{pick_cases}
 use Rattle.wire.specs.declared.Line.{Line}
 use Rattle.wire.specs.declared.Line.TheVariants.{Pair, End, Bad}
 use Rattle.state.specs.declared.State.{State}
@@ -21,12 +22,14 @@ use Rattle.decode.specs.Play.{displayed_of}
 use Rattle.decode.specs.Sound.{SoundDesk}
 use Rattle.decode.proofs.Laws.{pair_of_sound, fresh_desk_sound}
 use Rattle.lines.specs.Line.{header, run, lines_of, refused_of, Put}
-use Rattle.lines.proofs.Laws.{put_nothing, length-refused_of}
+use Rattle.lines.proofs.Laws.{put_nothing, put_as, length-refused_of}
 use Rattle.runs.specs.Frames.{screen_of, most, next_of}
 use Rattle.runs.specs.Runs.{is_same}
 use Rattle.runs.specs.Register.{refusal_of}
 use Rattle.runs.proofs.Laws.{next_below}
-use Rattle.walk.specs.Walk.{Place, place, walk, at_end, start_of, Fit, steps_of, stays_of, shown_of, shown_text_of, finished_of, finish_text_of, on_line, on_line_text_of, headed_of, step_of, step_text_of}
+use Rattle.walk.specs.Stage.{at_header, at_frames, is_live, stages_of}
+use Rattle.walk.specs.Walk.{Place, place, walk, start_of, Fit, steps_of, stays_of, shown_of, shown_text_of, finished_of, finish_text_of, on_line, on_line_text_of, headed_of, step_of, step_text_of}
+use Rattle.walk.proofs.Stages.{live_cases}
 use Rattle.walk.proofs.Laws.{coming_of, rest_of, coming_none, rest_shown, rest_finish, rest_none, rest_header}
 
 -- What steps ask is there at the start, and is kept.
@@ -59,71 +62,68 @@ module _ (p : Place) (first second : ℕ) (stays : Bool) {s : State} {cells : Li
     unfolding displayed_of
     stays_by = ap (λ (d : Desk). is_same (screen_of d) p.held) (sym e) ∙ t
 
-    pub shown_place : place (walk 1 (p.walk.frame + 1) (pick stays p.walk.since (p.walk.frame + 1)) s) cells (pick stays p.held (take 960 cells)) ≡ shown_of p first second
+    pub shown_place : place (walk at_frames (p.walk.frame + 1) (pick stays p.walk.since (p.walk.frame + 1)) s) cells (pick stays p.held (take 960 cells)) ≡ shown_of p first second
     unfolding displayed_of shown_of
     shown_place =
-        λ i. place (walk 1 (p.walk.frame + 1) (pick (sym stays_by i) p.walk.since (p.walk.frame + 1)) (e i).state) (e i).cells (pick (sym stays_by i) p.held (screen_of (e i)))
+        λ i. place (walk at_frames (p.walk.frame + 1) (pick (sym stays_by i) p.walk.since (p.walk.frame + 1)) (e i).state) (e i).cells (pick (sym stays_by i) p.held (screen_of (e i)))
 
     pub shown_text : shown_text_of p first second ≡ pick stays [] (lines_of (run p.walk.since p.walk.frame p.held))
     unfolding shown_text_of
     shown_text = ap (λ (b : Bool). pick b [] (lines_of (run p.walk.since p.walk.frame p.held))) stays_by
 
--- another name for what was printed, and more room
-pub put_as : {out left text more : List ℕ} {n m a b : ℕ} → text ≡ more → a ≤ b → Put out n text a left m → Put out n more b left m
-put_as {out} {n = n} e h p =
-    let small = p.room in
-    record { bytes = p.bytes ∙ ap (over out n) e; next = p.next ∙ ap (λ (l : List ℕ). n + length l) e; room = omega arith }
-
-pub refusal_none : (out : List ℕ) (n size frame : ℕ) → size ≤ frame * 5 → Put out n (refusal_of size frame) 16 out n
+pub refusal_none : (d : List ℕ) (size frame : ℕ) → size ≤ frame * 5 → Put d (refusal_of size frame) 16 d 0
 unfolding refusal_of
-refusal_none out n size frame h = put_nothing out n 16 (simp (le-leb size (frame * 5) h))
+refusal_none d size frame h = put_nothing d 16 (simp (le-leb size (frame * 5) h))
 
-pub refusal_some : (out : List ℕ) (n size frame number : ℕ) {left : List ℕ} → frame * 5 < size → pick (eqb frame most) 3 5 ≡ number → left ≡ over out n (refused_of (frame + 1) number)
-    → Put out n (refusal_of size frame) 16 left (n + 16)
+pub refusal_some : (d : List ℕ) (size frame number : ℕ) {left : List ℕ} → frame * 5 < size → pick (eqb frame most) 3 5 ≡ number → left ≡ over d 0 (refused_of (frame + 1) number)
+    → Put d (refusal_of size frame) 16 left 16
 unfolding refusal_of
-refusal_some out n size frame number h e l =
+refusal_some d size frame number h e l =
     put_as {text = refused_of (frame + 1) number} {a = 16} (simp (lt-leb size (frame * 5) h, e)) (omega arith)
-    (record { bytes = l; next = ap (λ (k : ℕ). n + k) (sym (length-refused_of (frame + 1) number)); room = omega arith })
+    (record { bytes = l; next = sym (length-refused_of (frame + 1) number); room = omega arith })
 
 -- One step, by what it is.
 
 module _ (p : Place) (reel : List ℕ) where
-  pub step_header : p.walk.stage ≡ 0 → (step_of p reel ≡ headed_of p) × (step_text_of p reel ≡ header)
+  pub step_header : p.walk.stage ≡ at_header → (step_of p reel ≡ headed_of p) × (step_text_of p reel ≡ header)
   unfolding step_of step_text_of
   step_header e = (simp e, simp e)
 
-  pub step_line : {l : Line} → p.walk.stage ≡ 1 → next_of reel p.walk.frame ≡ l → (step_of p reel ≡ on_line l p) × (step_text_of p reel ≡ on_line_text_of l p (length reel))
+  pub step_line : {l : Line} → p.walk.stage ≡ at_frames → next_of reel p.walk.frame ≡ l → (step_of p reel ≡ on_line l p) × (step_text_of p reel ≡ on_line_text_of l p (length reel))
   unfolding step_of step_text_of
   step_line one e = (simp one (ap (λ (x : Line). on_line x p) e), simp one (ap (λ (x : Line). on_line_text_of x p (length reel)) e))
 
-  module _ (P : List ℕ → Place → Type 0) (live : p.walk.stage < at_end) (head : p.walk.stage ≡ 0 → P header (headed_of p))
-      (line : (l : Line) → p.walk.stage ≡ 1 → next_of reel p.walk.frame ≡ l → P (on_line_text_of l p (length reel)) (on_line l p))
+  pub step_finish : {l : Line} → p.walk.stage ≡ at_frames → next_of reel p.walk.frame ≡ l → (l ≡ End) ⊎ (l ≡ Bad)
+      → (step_of p reel ≡ place (finished_of p.walk) p.cells p.held) × (step_text_of p reel ≡ finish_text_of p.walk p.held (length reel))
+  step_finish one e or = ⊎_elim (λ f. step_line one (e ∙ f)) (λ f. step_line one (e ∙ f)) or
+
+  module _ (P : List ℕ → Place → Type 0) (live : is_live p.walk.stage ≡ true) (head : p.walk.stage ≡ at_header → P header (headed_of p))
+      (line : (l : Line) → p.walk.stage ≡ at_frames → next_of reel p.walk.frame ≡ l → P (on_line_text_of l p (length reel)) (on_line l p))
     where
       pub step_cases : P (step_text_of p reel) (step_of p reel)
       step_cases =
-          below_cases p.walk.stage 1
-          (λ low. let e : p.walk.stage ≡ 0 = omega arith in let s = step_header e in subst (λ (q : Place). P (step_text_of p reel) q) (sym s.0) (subst (λ (t : List ℕ). P t (headed_of p)) (sym s.1) (head e)))
-          (λ high.
-          let one : p.walk.stage ≡ 1 = omega arith in
+          live_cases p.walk.stage live
+          (λ e. let s = step_header e in subst (λ (q : Place). P (step_text_of p reel) q) (sym s.0) (subst (λ (t : List ℕ). P t (headed_of p)) (sym s.1) (head e)))
+          (λ e.
           let l = next_of reel p.walk.frame in
-          let s = step_line {l = l} one refl in
-          subst (λ (q : Place). P (step_text_of p reel) q) (sym s.0) (subst (λ (t : List ℕ). P t (on_line l p)) (sym s.1) (line l one refl)))
+          let s = step_line {l = l} e refl in
+          subst (λ (q : Place). P (step_text_of p reel) q) (sym s.0) (subst (λ (t : List ℕ). P t (on_line l p)) (sym s.1) (line l e refl)))
 
 -- A step loses nothing and gives nothing twice, keeps what steps ask, and is one step.
 
-module _ (p : Place) (reel : List ℕ) (f : Fit p) (live : p.walk.stage < at_end) where
-  ended : p.walk.stage ≡ 1 → coming_of p reel ≡ []
+module _ (p : Place) (reel : List ℕ) (f : Fit p) (live : is_live p.walk.stage ≡ true) where
+  ended : p.walk.stage ≡ at_frames → coming_of p reel ≡ []
       → finish_text_of p.walk p.held (length reel) ++ rest_of (place (finished_of p.walk) p.cells p.held) reel ≡ rest_of p reel
   unfolding finished_of
   ended one none =
       let text = finish_text_of p.walk p.held (length reel) in
-      ap (λ (l : List ℕ). text ++ l) (rest_none (place (finished_of p.walk) p.cells p.held) reel (omega arith))
+      ap (λ (l : List ℕ). text ++ l) (rest_none (place (finished_of p.walk) p.cells p.held) reel refl)
       ∙ append-nil text ∙ sym (rest_finish p reel one none)
 
   pub step_rest : step_text_of p reel ++ rest_of (step_of p reel) reel ≡ rest_of p reel
   step_rest = step_cases p reel (λ text q. text ++ rest_of q reel ≡ rest_of p reel) live (λ e. sym (rest_header p reel e)) line
     where
-      line : (l : Line) → p.walk.stage ≡ 1 → next_of reel p.walk.frame ≡ l → on_line_text_of l p (length reel) ++ rest_of (on_line l p) reel ≡ rest_of p reel
+      line : (l : Line) → p.walk.stage ≡ at_frames → next_of reel p.walk.frame ≡ l → on_line_text_of l p (length reel) ++ rest_of (on_line l p) reel ≡ rest_of p reel
       line (Pair first second) one e = sym (rest_shown p reel first second e one)
       line End one e = ended one (coming_none p reel e refl)
       line Bad one e = ended one (coming_none p reel e refl)
@@ -132,19 +132,19 @@ module _ (p : Place) (reel : List ℕ) (f : Fit p) (live : p.walk.stage < at_end
   unfolding finished_of
   step_fit = step_cases p reel (λ text q. Fit q) live (λ e. record { desk = f.desk; held = f.held; frame = f.frame }) line
     where
-      line : (l : Line) → p.walk.stage ≡ 1 → next_of reel p.walk.frame ≡ l → Fit (on_line l p)
+      line : (l : Line) → p.walk.stage ≡ at_frames → next_of reel p.walk.frame ≡ l → Fit (on_line l p)
       line (Pair first second) one e = shown_fit p first second f (next_below reel p.walk.frame e)
       line End one e = record { desk = f.desk; held = f.held; frame = f.frame }
       line Bad one e = record { desk = f.desk; held = f.held; frame = f.frame }
 
   pub step_on : steps_of p.walk ≡ suc (steps_of (step_of p reel).walk)
   unfolding finished_of shown_of
-  step_on = step_cases p reel (λ text q. steps_of p.walk ≡ suc (steps_of q.walk)) live (λ e. omega arith) line
+  step_on = step_cases p reel (λ text q. steps_of p.walk ≡ suc (steps_of q.walk)) live (λ e. omega (arith, ap stages_of e)) line
     where
-      line : (l : Line) → p.walk.stage ≡ 1 → next_of reel p.walk.frame ≡ l → steps_of p.walk ≡ suc (steps_of (on_line l p).walk)
-      line (Pair first second) one e = omega (arith, next_below reel p.walk.frame e)
-      line End one e = omega arith
-      line Bad one e = omega arith
+      line : (l : Line) → p.walk.stage ≡ at_frames → next_of reel p.walk.frame ≡ l → steps_of p.walk ≡ suc (steps_of (on_line l p).walk)
+      line (Pair first second) one e = omega (arith, ap stages_of one, next_below reel p.walk.frame e)
+      line End one e = omega (arith, ap stages_of one)
+      line Bad one e = omega (arith, ap stages_of one)
 
 -- No second walk fits the start.
 pub start_only : {p q : Place} → p ≡ start_of → q ≡ start_of → p ≡ q

@@ -1,2 +1,3 @@
--- The definitions of `walk`: one step of the walk over a reel.
+-- The definitions of `walk`: its stages, and one step of the walk over a reel.
+pub mod Stage
 pub mod Walk

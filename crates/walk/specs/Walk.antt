@@ -1,7 +1,7 @@
 -- The walk over a reel that prints its register: where it stands, and what one step does and prints.
 -- Paper 01, "Reel and register": "The runs and the bytes of each line are worked out in the proved part; the program only reads and prints."
 -- Assumes nothing.
-use Rattle.std.specs.Prelude.{◌≡◌, Bool, List, [], ◌++◌, ℕ, ◌+◌, ◌-◌, ◌≤◌, eqb, length, replicate}
+use Rattle.std.specs.Prelude.{◌≡◌, Bool, List, [], ◌++◌, ℕ, ◌+◌, ◌-◌, ◌≤◌, length, replicate}
 use Rattle.facts.specs.Choice.{pick}
 use Rattle.wire.specs.declared.Line.{Line}
 use Rattle.wire.specs.declared.Line.TheVariants.{Pair, End, Bad}
@@ -13,7 +13,9 @@ use Rattle.lines.specs.Line.{header, run, lines_of}
 use Rattle.runs.specs.Frames.{screen_of, most, next_of}
 use Rattle.runs.specs.Runs.{is_same, empty_screen}
 use Rattle.runs.specs.Register.{refusal_of}
+use Rattle.walk.specs.declared.Stage.{Stage}
 use Rattle.walk.specs.declared.Walk.{Walk}
+use Rattle.walk.specs.Stage.{at_header, at_frames, at_end, is_header, stages_of}
 
 -- what is by value and what is lent: the walk, the cells, and the screen of the stretch that is open
 pub record Place : Type 0 where
@@ -24,18 +26,8 @@ pub record Place : Type 0 where
 abbrev pub place : Walk → List ℕ → List ℕ → Place
 place w cells held = record { walk = w; cells = cells; held = held }
 
-abbrev pub walk : ℕ → ℕ → ℕ → State → Walk
+abbrev pub walk : Stage → ℕ → ℕ → State → Walk
 walk stage frame since state = record { stage = stage; frame = frame; since = since; state = state }
-
--- the stages of a walk: the header is to come, frames are to come, all is given
-abbrev pub at_header : ℕ
-at_header = 0
-
-abbrev pub at_frames : ℕ
-at_frames = 1
-
-abbrev pub at_end : ℕ
-at_end = 2
 
 unfoldable pub start_of : Place
 start_of = place (walk at_header 0 0 (fresh_of 1)) (replicate 1920 0) empty_screen
@@ -48,7 +40,7 @@ pub record Fit (p : Place) : Type 0 where
 
 -- how many steps are left at most
 abbrev pub steps_of : Walk → ℕ
-steps_of w = (most - w.frame) + (2 - w.stage)
+steps_of w = (most - w.frame) + stages_of w.stage
 
 -- the longest output of one step: fifteen lines of a run, and a refusal
 abbrev pub room : ℕ
@@ -92,7 +84,7 @@ headed_of p = place (walk at_frames p.walk.frame p.walk.since p.walk.state) p.ce
 
 -- one step: the header, or what stands behind the frames that are read
 unfoldable pub step_of : Place → List ℕ → Place
-step_of p reel = pick (eqb p.walk.stage at_header) (headed_of p) (on_line (next_of reel p.walk.frame) p)
+step_of p reel = pick (is_header p.walk.stage) (headed_of p) (on_line (next_of reel p.walk.frame) p)
 
 unfoldable pub step_text_of : Place → List ℕ → List ℕ
-step_text_of p reel = pick (eqb p.walk.stage at_header) header (on_line_text_of (next_of reel p.walk.frame) p (length reel))
+step_text_of p reel = pick (is_header p.walk.stage) header (on_line_text_of (next_of reel p.walk.frame) p (length reel))

@@ -7,6 +7,9 @@ ghost use Rattle.window.specs.Window.{above_of, lowered_of, roll_of, empty_outsi
 
 use cell::{Cursor, Row};
 
+// A window stays as it is: a base row and a depth beside each other, since a type of the windows that fit would be narrower than what `roll`,
+// `empty_outside` and `move_window` take, each of which asks for another fit.
+
 // How many rows lie above the window of a base row and a depth that fits there.
 pub fn rows_above(base: Row, depth: u8) -> usize
     requires { depth ≤ base.0 }
@@ -16,19 +19,18 @@ pub fn rows_above(base: Row, depth: u8) -> usize
 }
 
 // A base row where a window of this depth does not fit is lowered to the row equal to the depth; column and pen stay.
-pub fn lowered(mut cursor: Cursor, depth: u8) -> Cursor
+#[tactic(auto, unfolding(crate::specs::Window::lowered_of))]
+pub fn lowered(cursor: Cursor, depth: u8) -> Cursor
     ensures { result ≡ lowered_of cursor depth }
 {
-    let base = cursor.row.0;
-    if base < depth {
-        let lower = Row(depth);
-        cursor.row = lower;
-        return cursor;
+    Cursor {
+        row: Row(cursor.row.0.max(depth)),
+        ..cursor
     }
-    cursor
 }
 
 // Each row of the window takes the row below; the base row is emptied.
+#[tactic(auto, unfolding(crate::specs::Window::roll_of))]
 pub fn roll(cells: &mut [u8], memory: usize, base: Row, depth: u8)
     requires { Holds memory cells.old × (base.0 ≤ 15) × (1 ≤ depth) × (depth ≤ base.0) }
     ensures { cells.new ≡ roll_of cells.old memory base depth }
@@ -41,6 +43,7 @@ pub fn roll(cells: &mut [u8], memory: usize, base: Row, depth: u8)
 }
 
 // The rows above and below the window are emptied.
+#[tactic(auto, unfolding(crate::specs::Window::empty_outside_of))]
 pub fn empty_outside(cells: &mut [u8], memory: usize, base: Row, depth: u8)
     requires { Holds memory cells.old × (base.0 ≤ 15) × (depth ≤ base.0) }
     ensures { cells.new ≡ empty_outside_of cells.old memory base depth }
@@ -52,6 +55,7 @@ pub fn empty_outside(cells: &mut [u8], memory: usize, base: Row, depth: u8)
 }
 
 // The window goes from one base row to another and fits at both: rows keep their distance from it, all else of the memory is emptied.
+#[tactic(auto, using(page::proofs::Laws::empty_all_of_is), unfolding(crate::specs::Window::move_of))]
 pub fn move_window(cells: &mut [u8], memory: usize, old: Row, new: Row, depth: u8)
     requires { Holds memory cells.old × (depth ≤ old.0) × (old.0 ≤ 15) × (depth ≤ new.0) × (new.0 ≤ 15) × (depth ≤ 4) }
     ensures { cells.new ≡ move_of cells.old memory old new depth }

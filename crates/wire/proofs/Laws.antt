@@ -2,20 +2,22 @@
 use mathlib.Core.Path.{◌≡◌, refl, ap, sym, ◌∙◌}
 use mathlib.Core.Bool.{Bool, true, false}
 use mathlib.Core.List.{List, [], ◌∷◌}
-use Prim.Native.Nat.{ℕ, ◌+◌, ◌*◌, ◌/◌, ◌%◌, ◌<◌, ◌≤◌}
+use Prim.Native.Nat.{ℕ, ◌+◌, ◌-◌, ◌*◌, ◌/◌, ◌%◌, ◌<◌, ◌≤◌}
 use native.Mathlib.Nat.{div-add-mod'}
 use native.Mathlib.Omega.{arith}
 use lib.Dec.{leb, lit<}
-use lib.ListN.{length, get_or, length-take, length-drop}
+use lib.ListN.{length, get_or, take, drop, length-take, length-drop}
 use borrow.Author.Tests.{le-leb, lt-leb, lt-ltb, ne_eqb}
+use Rattle.std.specs.Prelude.{Result, Ok, Err}
+use Rattle.std.specs.Array.{IsFirstChunk}
+use Rattle.std.proofs.lemmas.List.{take_all}
 use Rattle.facts.specs.Choice.{pick}
 use Rattle.facts.specs.Over.{part}
 use Rattle.facts.proofs.Choice.{pick_first, pick_second}
 use Rattle.facts.proofs.Every.{agree}
 use Rattle.wire.specs.declared.Line.{Line}
 use Rattle.wire.specs.declared.Line.TheVariants.{Pair, End, Bad}
-use Rattle.wire.specs.declared.Written.{Written}
-use Rattle.wire.specs.declared.Written.TheVariants.{Done, WrongLength}
+use Rattle.wire.specs.declared.WrongLength.{WrongLength}
 use Rattle.wire.specs.Byte.{low_seven}
 use Rattle.wire.specs.Line.{digits, digit_of, hex_of, is_line, byte_at, judge_of, line_at, line_of}
 use Rattle.wire.specs.Numbers.{reading, reading_of, read_line_of, number_of_written, value_of_written}
@@ -45,6 +47,13 @@ unfolding judge_of
 line_at_short reel at h k =
     let e : length (part reel at 5) ≡ 5 → ⊥ = simp (length-take, length-drop) (λ e. omega arith) in
     line_at_judge_of reel at h ∙ simp (ne_eqb _ _ e)
+
+-- the first five bytes from a place on, where there are so many
+pub line_at_chunk : (reel line : List ℕ) (at : ℕ) → at < length reel → IsFirstChunk (take (length reel - at) (drop at reel)) line 5
+    → line_at reel at ≡ judge_of line
+line_at_chunk reel line at h c =
+    line_at_judge_of reel at h
+    ∙ ap judge_of (sym (c.same ∙ ap (take 5) (take_all (length reel - at) (drop at reel) (simp length-drop (omega arith)))))
 
 pub line_at_five : (reel : List ℕ) (at : ℕ) → at + 5 ≤ length reel
     → line_at reel at ≡ judge_of (get_or reel at 0 ∷ get_or reel (at + 1) 0 ∷ get_or reel (at + 2) 0 ∷ get_or reel (at + 3) 0 ∷ get_or reel (at + 4) 0 ∷ [])
@@ -152,13 +161,13 @@ line_of_line_at reel at {first} {second} e =
 pub read_line_only : (reel : List ℕ) (at : ℕ) (r q : Line) → r ≡ line_at reel at → q ≡ line_at reel at → r ≡ q
 read_line_only reel at r q e f = e ∙ sym f
 
-same_written : (r q : Written) → number_of_written r ≡ number_of_written q → r ≡ q
-same_written Done Done e = refl
-same_written Done WrongLength e = absurd (omega arith)
-same_written WrongLength Done e = absurd (omega arith)
-same_written WrongLength WrongLength e = refl
+same_written : (r q : Result Unit WrongLength) → number_of_written r ≡ number_of_written q → r ≡ q
+same_written (Ok done) (Ok too) e = refl
+same_written (Ok done) (Err refusal) e = absurd (omega arith)
+same_written (Err refusal) (Ok done) e = absurd (omega arith)
+same_written (Err refusal) (Err too) e = refl
 
-pub write_line_only : (out : List ℕ) (first second : ℕ) (r q : Written) (d e : List ℕ)
+pub write_line_only : (out : List ℕ) (first second : ℕ) (r q : Result Unit WrongLength) (d e : List ℕ)
     → outcome (number_of_written r) (value_of_written r) d ≡ write_line_of out first second
     → outcome (number_of_written q) (value_of_written q) e ≡ write_line_of out first second
     → (r ≡ q) × (d ≡ e)

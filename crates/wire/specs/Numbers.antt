@@ -1,14 +1,13 @@
 -- Each answer of this crate has the paper's number and value.
 -- Paper 01, "Numbers given back", rows 0, 1 and 5; "Record, log, tray": "At its end it gives 0 and no pair".
 -- Assumes nothing.
-use Rattle.std.specs.Prelude.{ℕ, ◌+◌, ◌*◌, Bool, true, false, List, leb, length}
+use Rattle.std.specs.Prelude.{ℕ, ◌+◌, ◌*◌, Bool, true, false, List, leb, length, Result, Ok, Err}
 use Rattle.facts.specs.Choice.{pick}
 use Rattle.facts.specs.Over.{part}
 use Rattle.wire.specs.Line.{is_line, byte_at}
 use Rattle.wire.specs.declared.Line.{Line}
 use Rattle.wire.specs.declared.Line.TheVariants.{Pair, End, Bad}
-use Rattle.wire.specs.declared.Written.{Written}
-use Rattle.wire.specs.declared.Written.TheVariants.{Done, WrongLength}
+use Rattle.wire.specs.declared.WrongLength.{WrongLength}
 
 -- 5: "a frame line is not four of 0–9 A–F and a line feed"
 abbrev pub number_of_line : Line → ℕ
@@ -46,11 +45,11 @@ read_line_of reel at =
     pick (leb (length reel) at) (reading 0 false 0) (pick (is_line l) (reading 0 true (byte_at l 0 * 256 + byte_at l 2)) (reading 5 false 0))
 
 -- 1: "a lent buffer has a wrong length"
-abbrev pub number_of_written : Written → ℕ
-number_of_written Done = 0
-number_of_written WrongLength = 1
+abbrev pub number_of_written : Result Unit WrongLength → ℕ
+number_of_written (Ok done) = 0
+number_of_written (Err refusal) = 1
 
 -- nothing was asked but the writing: 0 either way
-abbrev pub value_of_written : Written → ℕ
-value_of_written Done = 0
-value_of_written WrongLength = 0
+abbrev pub value_of_written : Result Unit WrongLength → ℕ
+value_of_written (Ok done) = 0
+value_of_written (Err refusal) = 0

@@ -1,32 +1,39 @@
 // Bytes as they come on line 21, good or bad, with their low seven bits; frame lines of a reel, read and written.
 #![tactic(auto)]
 
-ghost use Rattle.std.specs.Prelude.{◌≡◌, [], ◌∷◌, ◌<◌};
+ghost use Rattle.std.specs.Prelude.{◌≡◌, ◌&&◌, ◌+◌, ◌*◌, ◌<◌, Some, None, Err};
+ghost use Rattle.facts.specs.Choice.{pick};
 ghost use Rattle.wire.specs.Byte.{is_good, low_seven, sent_of};
-ghost use Rattle.wire.specs.Line.{digit_of, hex_of, judge_of, line_at};
+ghost use Rattle.wire.specs.Line.{is_digit, digit_of, hex_of, judge_of, line_at};
 ghost use Rattle.wire.specs.Written.{outcome, write_line_of};
 ghost use Rattle.wire.specs.Numbers.{reading_of, read_line_of, number_of_written, value_of_written};
 
-// What stands at a place of a reel: the two raw bytes of a frame, the reel's end, or what is no frame line.
-#[derive(Clone, Copy)]
+// What stands at a place of a reel: the two raw bytes of a frame, the reel's end, or what is no frame line. This enum stays as it is:
+// they are three answers of the paper, and an Option of a Result would name none of them.
+#[derive(Clone, Copy, Debug, PartialEq, Eq)]
 pub enum Line {
     Pair(u8, u8),
     End,
     Bad,
 }
 
-// Whether a frame line was written, or its buffer has a wrong length.
-#[derive(Clone, Copy)]
-pub enum Written {
-    Done,
-    WrongLength,
+// Why no frame line is written: the buffer has a wrong length.
+#[derive(Clone, Copy, Debug, PartialEq, Eq)]
+pub struct WrongLength;
+
+impl From<WrongLength> for u16 {
+    ghost from_gives = { λ refusal number. number ≡ number_of_written (Err refusal) };
+
+    fn from(_refusal: WrongLength) -> u16 {
+        1
+    }
 }
 
 // Whether a byte has an odd number of one bits among its eight.
 pub fn is_good(byte: u8) -> bool
     ensures { result ≡ is_good byte }
 {
-    u32::count_ones(byte as u32) % 2 == 1
+    byte.count_ones() % 2 == 1
 }
 
 // What a byte says without its parity bit.
@@ -48,17 +55,16 @@ pub fn sent(value: u8) -> u8
     low + 0x80
 }
 
-// The value of a digit, 0-9 A-F; 16 for any other byte.
-fn digit(byte: u8) -> u8
-    ensures { result ≡ digit_of byte }
+// The value of a digit, 0-9 A-F.
+#[tactic(auto, using(crate::proofs::Tables::read_decimal, crate::proofs::Tables::read_letter, crate::proofs::Tables::read_below, crate::proofs::Tables::read_between, crate::proofs::Tables::read_above))]
+fn digit(byte: u8) -> Option<u8>
+    ensures { result ≡ pick (is_digit byte) (Some (digit_of byte)) None }
 {
-    if (0x30 <= byte) & (byte <= 0x39) {
-        return byte - 0x30;
+    match byte {
+        b'0'..=b'9' => Some(byte - b'0'),
+        b'A'..=b'F' => Some(byte - b'A' + 10),
+        _ => None,
     }
-    if (0x41 <= byte) & (byte <= 0x46) {
-        return byte - 0x37;
-    }
-    16
 }
 
 // The digit, 0-9 A-F, of a value.
@@ -67,23 +73,27 @@ pub fn hex(value: u8) -> u8
     ensures { result ≡ hex_of value }
 {
     if value < 10 {
-        return value + 0x30;
+        return b'0' + value;
     }
-    value + 0x37
+    b'A' + (value - 10)
 }
 
-// Five bytes judged as a frame line. The five tests are one flag, so that the compiler reads the four digits side by side.
-fn judge(p: u8, q: u8, r: u8, s: u8, end: u8) -> Line
-    ensures { result ≡ judge_of (p ∷ q ∷ r ∷ s ∷ end ∷ []) }
+// The byte that two digits say, the high digit first.
+fn byte(high: u8, low: u8) -> Option<u8>
+    ensures { result ≡ pick (is_digit high && is_digit low) (Some (digit_of high * 16 + digit_of low)) None }
 {
-    let a = digit(p);
-    let b = digit(q);
-    let c = digit(r);
-    let d = digit(s);
-    if (a < 16) & (b < 16) & (c < 16) & (d < 16) & (end == 0x0a) {
-        return Line::Pair(a * 16 + b, c * 16 + d);
+    Some(digit(high)? * 16 + digit(low)?)
+}
+
+// Five bytes judged as a frame line.
+#[tactic(auto, unfolding(crate::specs::Line::judge_of))]
+fn judge(line: &[u8; 5]) -> Line
+    ensures { result ≡ judge_of line.now }
+{
+    match (byte(line[0], line[1]), byte(line[2], line[3]), line[4]) {
+        (Some(first), Some(second), b'\n') => Line::Pair(first, second),
+        _ => Line::Bad,
     }
-    Line::Bad
 }
 
 // The frame line that stands at place `at` of a reel. It reads five bytes and copies none.
@@ -93,30 +103,27 @@ pub fn read_line(reel: &[u8], at: usize) -> Line
     if reel.len() <= at {
         return Line::End;
     }
-    if reel.len() - at < 5 {
-        return Line::Bad;
+    match reel[at..].first_chunk::<5>() {
+        Some(line) => judge(line),
+        None => Line::Bad,
     }
-    judge(
-        reel[at],
-        reel[at + 1],
-        reel[at + 2],
-        reel[at + 3],
-        reel[at + 4],
-    )
 }
 
 // The frame line of a pair into a buffer of five bytes; any other buffer stays as it is.
 #[tactic(auto, using(crate::proofs::Lemmas::set_five), unfolding(crate::specs::Written::write_line_of, crate::specs::Line::line_of))]
-pub fn write_line(out: &mut [u8], first: u8, second: u8) -> Written
+pub fn write_line(out: &mut [u8], first: u8, second: u8) -> Result<(), WrongLength>
     ensures { outcome (number_of_written result) (value_of_written result) out.new ≡ write_line_of out.old first second }
 {
-    if out.len() == 5 {
-        out[0] = hex(first / 16);
-        out[1] = hex(first % 16);
-        out[2] = hex(second / 16);
-        out[3] = hex(second % 16);
-        out[4] = 0x0a;
-        return Written::Done;
+    if out.len() != 5 {
+        return Err(WrongLength);
     }
-    Written::WrongLength
+    let line = [
+        hex(first / 16),
+        hex(first % 16),
+        hex(second / 16),
+        hex(second % 16),
+        0x0a,
+    ];
+    out.copy_from_slice(&line);
+    Ok(())
 }

@@ -11,16 +11,11 @@ pub fn are_cells(memory: &[u8]) -> bool
     requires { length memory.now ≡ 960 }
     ensures { result ≡ are_cells memory.now }
 {
-    let mut ok = true;
-    let mut row: usize = 0;
-    while row < 15 {
-        ok = ok & valid::is_row(memory, row * 64);
-        row += 1;
-    }
-    ok
+    (0..15).all(|row| valid::is_row(memory, row * 64))
 }
 
 // The pen of the last non-empty cell of the row that starts at `at`; plain where there is none.
+#[tactic(auto, unfolding(tape::specs::Writable::row_pen_of))]
 pub fn row_pen(memory: &[u8], at: usize) -> u8
     requires { at + 64 ≤ length memory.now }
     ensures { result ≡ row_pen_of memory.now at }
@@ -33,6 +28,7 @@ pub fn row_pen(memory: &[u8], at: usize) -> u8
 }
 
 // No flash, and italics only with white.
+#[tactic(auto, unfolding(tape::specs::Writable::is_steady))]
 fn is_steady(pen: u8) -> bool
     ensures { result ≡ is_steady pen }
 {
@@ -41,26 +37,20 @@ fn is_steady(pen: u8) -> bool
 }
 
 // An empty cell, or a character with the row's pen.
+#[tactic(auto, unfolding(tape::specs::Writable::is_cell_of))]
 fn is_cell_of(pen: u8, code: u8, own: u8) -> bool
     ensures { result ≡ is_cell_of pen code own }
 {
     (code == 0) | ((own == pen) & (code != 0x80))
 }
 
-// Whether the row that starts at `at` can be written. One flag with no way out, as in the tests of a record.
+// Whether the row that starts at `at` can be written.
 pub fn is_row_writable(memory: &[u8], at: usize) -> bool
     requires { at + 64 ≤ length memory.now }
     ensures { result ≡ is_row_writable memory.now at }
 {
     let pen = row_pen(memory, at);
-    let mut ok = true;
-    let mut k: usize = 0;
-    while k < 32 {
-        let i = at + k * 2;
-        ok = ok & is_cell_of(pen, memory[i], memory[i + 1]);
-        k += 1;
-    }
-    is_steady(pen) & ok
+    is_steady(pen) && (0..32).all(|k| is_cell_of(pen, memory[at + k * 2], memory[at + k * 2 + 1]))
 }
 
 // Whether a screen can be written.
@@ -68,11 +58,5 @@ pub fn is_writable(memory: &[u8]) -> bool
     requires { length memory.now ≡ 960 }
     ensures { result ≡ is_writable memory.now }
 {
-    let mut ok = true;
-    let mut row: usize = 0;
-    while row < 15 {
-        ok = ok & is_row_writable(memory, row * 64);
-        row += 1;
-    }
-    ok
+    (0..15).all(|row| is_row_writable(memory, row * 64))
 }

@@ -1,27 +1,23 @@
 -- What the writer lays item by item and row by row is the tape, and what it refuses is what the paper refuses. Assumes nothing.
 use mathlib.Core.Path.{◌≡◌, refl, sym, ap, ◌∙◌}
-use mathlib.Core.Bool.{true}
 use mathlib.Core.List.{List, [], ◌++◌}
 use Prim.Native.Nat.{ℕ, zero, suc, ◌+◌, ◌-◌, ◌*◌, ◌<◌, ◌≤◌}
 use native.Mathlib.Numerals.{add-one}
-use native.Mathlib.Nat.{zero-add}
 use native.Mathlib.Omega.{arith}
 use lib.ListN.{length, length-append}
 use borrow.Author.Tests.{eq-eqb, ne_eqb, lt-ltb, le-ltb}
 use Rattle.facts.proofs.Choice.{below_cases}
-use Rattle.wire.specs.Written.{outcome}
 use Rattle.record.specs.Layout.{code_at}
 use Rattle.lines.specs.Span.{lead_of, end_of}
 use Rattle.lines.proofs.Printed.{lead_of_first, end_of_last}
 use Rattle.tape.specs.declared.Item.{Item}
 use Rattle.tape.specs.Item.{rcl_item, enm_item, eoc_item, next_item_of, bytes_of}
 use Rattle.tape.specs.Preamble.{preamble_item_of}
-use Rattle.tape.specs.Writable.{row_pen_of, are_cells, is_writable}
+use Rattle.tape.specs.Writable.{row_pen_of}
 use Rattle.tape.specs.Tape.{code_before, item_at, rest_of, filled_row_of, row_tape_of, rows_tape_of, loading_of, tape_of}
 use Rattle.tape.proofs.LawsOfSizes.{next_item_of_columns, rest_more}
 use Rattle.items.specs.Laid.{Laid}
 use Rattle.items.proofs.LawsOfLaid.{laid_then}
-use Rattle.writer.specs.Write.{is_lent, is_channel, write_tape_of}
 
 -- The items of a row.
 
@@ -102,11 +98,3 @@ pub tape_parts : (channel : ℕ) (memory : List ℕ)
     → ((bytes_of channel rcl_item ++ bytes_of channel enm_item) ++ rows_tape_of channel memory 15) ++ bytes_of channel eoc_item ≡ tape_of memory channel
 unfolding tape_of loading_of
 tape_parts channel memory = refl
-
--- the call that is not refused
-pub write_done : (memory out : List ℕ) (channel : ℕ) {left : List ℕ} {r : ℕ} → is_lent memory out ≡ true → are_cells memory ≡ true → is_channel channel ≡ true → is_writable memory ≡ true
-    → Laid out 0 (tape_of memory channel) left r → outcome 0 r left ≡ write_tape_of memory channel out
-unfolding write_tape_of
-write_done memory out channel lent cells own fits l =
-    let n = l.next ∙ zero-add (length (tape_of memory channel)) in
-    rw (lent, cells, own, fits) (λ i. outcome 0 (n i) (l.bytes i))

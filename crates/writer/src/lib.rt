@@ -3,23 +3,36 @@
 
 ghost use Rattle.std.specs.Prelude.{◌≡◌, ◌+◌, ◌*◌, ◌<◌, ◌≤◌, length};
 ghost use Rattle.wire.specs.Written.{outcome};
+ghost use Rattle.tape.specs.Channel.{number_of_channel};
 ghost use Rattle.tape.specs.Tape.{code_before, item_at, rest_of, row_tape_of, rows_tape_of, tape_of};
 ghost use Rattle.items.specs.Laid.{Laid};
-ghost use Rattle.writer.specs.Write.{number_of_tape, value_of_tape, write_tape_of};
+ghost use Rattle.writer.specs.Write.{number_of_refusal, number_of_tape, value_of_tape, write_tape_of};
 
-use tape::Item;
+use tape::{Channel, Item};
 
-// What the call gives back.
-#[derive(Clone, Copy)]
-pub enum Answer {
-    // How many bytes were written.
-    Done(u16),
+// Why a tape is refused.
+#[derive(Clone, Copy, Debug, PartialEq, Eq)]
+pub enum Refusal {
     WrongLength,
     // A channel that there is not.
     NoSuch,
     // A cell that no record may hold.
     Invalid,
     NotWritable,
+}
+
+// The paper's number of a refusal.
+impl From<Refusal> for u16 {
+    ghost from_gives = { λ refusal number. number ≡ number_of_refusal refusal };
+
+    fn from(refusal: Refusal) -> u16 {
+        match refusal {
+            Refusal::WrongLength => 1,
+            Refusal::NoSuch => 2,
+            Refusal::Invalid => 6,
+            Refusal::NotWritable => 7,
+        }
+    }
 }
 
 // The code of cell `k` of a row of `end` cells; behind them 80h stands, so that the next row is no part of this one.
@@ -45,18 +58,19 @@ fn item_at(memory: &[u8], at: usize, end: usize, k: usize) -> Item
 }
 
 // The items of a row from cell `from` on, behind the first `n` bytes of a buffer.
+// The loop stays as it is: (d) an item leads on one to three columns by what it is, so that no range, slice or chunk is what it goes over.
 fn put_rest(
     out: &mut [u8],
     n: usize,
-    channel: u8,
+    channel: Channel,
     memory: &[u8],
     at: usize,
     end: usize,
     from: usize,
 ) -> usize
-    requires { (1 ≤ channel) × (channel ≤ 2) × (at + 64 ≤ length memory.now) × (end ≤ 32)
-        × (n + length (rest_of channel memory.now at end from) ≤ length out.old) }
-    ensures { Laid out.old n (rest_of channel memory.now at end from) out.new result }
+    requires { (at + 64 ≤ length memory.now) × (end ≤ 32)
+        × (n + length (rest_of (number_of_channel channel) memory.now at end from) ≤ length out.old) }
+    ensures { Laid out.old n (rest_of (number_of_channel channel) memory.now at end from) out.new result }
 {
     let mut m = n;
     let mut k = from;
@@ -69,10 +83,10 @@ fn put_rest(
 }
 
 // A row, counted from 0: nothing where it is empty, else its preamble and its cells up to the last non-empty one.
-fn put_row(out: &mut [u8], n: usize, channel: u8, memory: &[u8], row: usize) -> usize
-    requires { (1 ≤ channel) × (channel ≤ 2) × (length memory.now ≡ 960) × (row < 15)
-        × (n + length (row_tape_of channel memory.now row) ≤ length out.old) }
-    ensures { Laid out.old n (row_tape_of channel memory.now row) out.new result }
+fn put_row(out: &mut [u8], n: usize, channel: Channel, memory: &[u8], row: usize) -> usize
+    requires { (length memory.now ≡ 960) × (row < 15)
+        × (n + length (row_tape_of (number_of_channel channel) memory.now row) ≤ length out.old) }
+    ensures { Laid out.old n (row_tape_of (number_of_channel channel) memory.now row) out.new result }
 {
     let at = row * 64;
     let end = lines::end(memory, at);
@@ -86,23 +100,21 @@ fn put_row(out: &mut [u8], n: usize, channel: u8, memory: &[u8], row: usize) -> 
 }
 
 // All rows, from the top.
-fn put_rows(out: &mut [u8], n: usize, channel: u8, memory: &[u8]) -> usize
-    requires { (1 ≤ channel) × (channel ≤ 2) × (length memory.now ≡ 960) × (n + length (rows_tape_of channel memory.now 15) ≤ length out.old) }
-    ensures { Laid out.old n (rows_tape_of channel memory.now 15) out.new result }
+fn put_rows(out: &mut [u8], n: usize, channel: Channel, memory: &[u8]) -> usize
+    requires { (length memory.now ≡ 960) × (n + length (rows_tape_of (number_of_channel channel) memory.now 15) ≤ length out.old) }
+    ensures { Laid out.old n (rows_tape_of (number_of_channel channel) memory.now 15) out.new result }
 {
     let mut m = n;
-    let mut row: usize = 0;
-    while row < 15 {
+    for row in 0..15 {
         m = put_row(out, m, channel, memory, row);
-        row += 1;
     }
     m
 }
 
 // The whole tape, behind the first `n` bytes of a buffer.
-fn put_tape(out: &mut [u8], n: usize, channel: u8, memory: &[u8]) -> usize
-    requires { (1 ≤ channel) × (channel ≤ 2) × (length memory.now ≡ 960) × (n + length (tape_of memory.now channel) ≤ length out.old) }
-    ensures { Laid out.old n (tape_of memory.now channel) out.new result }
+fn put_tape(out: &mut [u8], n: usize, channel: Channel, memory: &[u8]) -> usize
+    requires { (length memory.now ≡ 960) × (n + length (tape_of memory.now (number_of_channel channel)) ≤ length out.old) }
+    ensures { Laid out.old n (tape_of memory.now (number_of_channel channel)) out.new result }
 {
     let opened = items::put_item(out, n, channel, items::RCL);
     let emptied = items::put_item(out, opened, channel, items::ENM);
@@ -110,23 +122,22 @@ fn put_tape(out: &mut [u8], n: usize, channel: u8, memory: &[u8]) -> usize
     items::put_item(out, loaded, channel, items::EOC)
 }
 
-// The tape of a screen of 960 bytes on a channel, into a buffer of 4,096; its bytes past the pairs stay, and on a refusal all of them.
+// The tape of a screen of 960 bytes on a channel, into a buffer of 4,096, and how many bytes it has; the buffer's bytes past the pairs stay, and on a refusal all of them.
 #[tactic(auto, unfolding(crate::specs::Write::write_tape_of))]
-pub fn write_tape(memory: &[u8], channel: u8, out: &mut [u8]) -> Answer
+pub fn write_tape(memory: &[u8], channel: u8, out: &mut [u8]) -> Result<u16, Refusal>
     ensures { outcome (number_of_tape result) (value_of_tape result) out.new ≡ write_tape_of memory.now channel out.old }
 {
-    if (memory.len() == 960) & (out.len() == 4096) {
-        if writable::are_cells(memory) {
-            let fits = writable::is_writable(memory);
-            if (1 <= channel) & (channel <= 2) {
-                if fits {
-                    return Answer::Done(put_tape(out, 0, channel, memory) as u16);
-                }
-                return Answer::NotWritable;
-            }
-            return Answer::NoSuch;
-        }
-        return Answer::Invalid;
+    if memory.len() != 960 || out.len() != 4096 {
+        return Err(Refusal::WrongLength);
     }
-    Answer::WrongLength
+    if !writable::are_cells(memory) {
+        return Err(Refusal::Invalid);
+    }
+    let Ok(channel) = Channel::try_from(channel) else {
+        return Err(Refusal::NoSuch);
+    };
+    if !writable::is_writable(memory) {
+        return Err(Refusal::NotWritable);
+    }
+    Ok(put_tape(out, 0, channel, memory) as u16)
 }

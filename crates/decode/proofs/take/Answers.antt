@@ -10,6 +10,6 @@ pub returns : goal.returns
 unfolding taken_of
 returns c =
     let a = c.args in
-    let e = c.pair-next.ensures in
+    let e = c.pair.ensures in
     let n = sym (pair_of_acts (desk a.state a.cells.now) a.x a.y) in
     λ i. desk (state (n i + 1) (e i).state.selected (e i).state.stream (e i).state.first (e i).state.second (e i).state.mode) (e i).cells

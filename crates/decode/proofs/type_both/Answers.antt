@@ -5,14 +5,14 @@ use Rattle.decode.specs.Pair.{with_mode}
 use Rattle.decode.proofs.Laws.{is_open_live, open_both, shut_both}
 use Rattle.decode.proofs.type_both.Goals as goal
 
-pub write_two-next-requires : goal.write_two-next-requires
-write_two-next-requires c =
+pub write_two-mode-requires : goal.write_two-mode-requires
+write_two-mode-requires c =
     (c.requires, is_open_live c.args.state (sym c.is_open.ensures ∙ c.if-is_open.true))
 
 pub returns-then-is_open : goal.returns-then-is_open
 returns-then-is_open c =
     let a = c.args in
-    ap (λ (d : Captions). desk (with_mode a.state d.mode) d.cells) c.write_two-next.ensures
+    ap (λ (d : Captions). desk (with_mode a.state d.mode) d.cells) c.write_two-mode.ensures
     ∙ open_both (desk a.state a.cells.now) a.first a.second (sym c.is_open.ensures ∙ c.if-is_open.true)
 
 pub returns : goal.returns

@@ -1,22 +1,29 @@
--- `is_blank` meets its contract. Assumes nothing.
-use mathlib.Core.Path.{◌≡◌, ap, ◌∙◌}
-use Prim.Native.Nat.{ℕ, ◌+◌}
-use native.Mathlib.Omega.{arith}
+-- `is_blank` meets its contract: the flag is, after each byte, the test of all bytes up to there. Assumes nothing.
+use mathlib.Core.Path.{◌≡◌, refl, ap, sym, ◌∙◌}
+use mathlib.Core.Bool.{Bool, true, ◌&&◌}
+use mathlib.Core.List.{[], ◌∷◌}
+use Prim.Native.Nat.{ℕ}
+use native.Mathlib.Nat.{add-sub_cancel_left}
 use lib.Dec.{eqb}
-use lib.ListN.{get_or}
+use lib.ListN.{take, drop}
 use borrow.Author.Rules.{rules}
-use Rattle.facts.specs.Every.{blank_of}
-use Rattle.facts.proofs.Every.{every_more}
+use Rattle.std.specs.List.{fold}
+use Rattle.std.proofs.Common.{tests}
+use Rattle.std.proofs.lemmas.List.Sums.{fold-append}
+use Rattle.std.proofs.lemmas.Fn.{fold_over, fronts, slice_gives}
+use Rattle.facts.proofs.Every.{blank_flag}
 use Rattle.facts.proofs.is_blank.Goals as goal
 
-pub loop-i-preserved : goal.loop-i-preserved
-loop-i-preserved c =
-    let a = c.args in
-    (search rules, every_more (λ (k : ℕ). eqb (get_or a.bytes.now (a.at + k) 0) 0) c.loop-i.i c.loop-i.invariant.1)
-
 pub returns : goal.returns
-unfolding blank_of
 returns c =
     let a = c.args in
-    let e : c.loop-i.i ≡ a.n = omega arith in
-    c.loop-i.invariant.1 ∙ ap (λ (k : ℕ). blank_of a.bytes.now a.at k) e
+    let test = λ (flag : Bool) (byte : ℕ). flag && eqb byte 0 in
+    let joined = fold test true in
+    fold_over fronts (λ y. y.now) _ (λ ys flag. flag ≡ joined ys) _
+    (λ ys flag byte next f h k.
+    let v : next ≡ test flag byte.now = search (rules, tests) in
+    (v ∙ ap (λ (t : Bool). test t byte.now) h ∙ sym (fold-append test true ys (byte.now ∷ [])), refl))
+    c.iter.result c.iter.result.rest.now true c.fold.result (slice_gives c.iter.result) refl c.fold.ensures.ran
+    ∙ ap joined c.iter.ensures.rest
+    ∙ ap (λ (k : ℕ). joined (take k (drop a.at a.bytes.now))) (add-sub_cancel_left a.at a.n)
+    ∙ blank_flag a.bytes.now a.at a.n c.requires

@@ -1,22 +1,7 @@
 -- `same` meets its contract. Assumes nothing.
-use mathlib.Core.Path.{◌≡◌, ap, ◌∙◌}
-use Prim.Native.Nat.{ℕ}
-use native.Mathlib.Omega.{arith}
-use lib.Dec.{eqb}
-use lib.ListN.{get_or}
-use borrow.Author.Rules.{rules}
-use Rattle.facts.specs.Every.{same_of}
-use Rattle.facts.proofs.Every.{every_more}
+use mathlib.Core.Path.{◌∙◌}
+use Rattle.facts.proofs.Every.{same_fronts}
 use Rattle.facts.proofs.same.Goals as goal
 
-pub loop-i-preserved : goal.loop-i-preserved
-loop-i-preserved c =
-    let a = c.args in
-    (search rules, every_more (λ (k : ℕ). eqb (get_or a.a.now k 0) (get_or a.b.now k 0)) c.loop-i.i c.loop-i.invariant.1)
-
 pub returns : goal.returns
-unfolding same_of
-returns c =
-    let a = c.args in
-    let e : c.loop-i.i ≡ a.n = omega arith in
-    c.loop-i.invariant.1 ∙ ap (λ (k : ℕ). same_of a.a.now a.b.now k) e
+returns c = c.eq.ensures ∙ same_fronts c.args.a.now c.args.b.now c.args.n c.requires.0 c.requires.1

@@ -1,12 +1,7 @@
 -- `slide` meets its contract: what is read lies behind what is covered. Assumes nothing.
 use mathlib.Core.Path.{◌≡◌}
-use Prim.Native.Nat.{◌-◌, ◌≤◌}
-use lib.ListN.{length}
 use Rattle.facts.specs.Over.{over, part}
 use Rattle.facts.proofs.slide.Given as goal
 
 abbrev pub invariant-loop-j : goal.invariant-loop-j
-invariant-loop-j l = (l.j ≤ l.n) × (length l.bytes ≡ length l.initial.bytes) × (l.bytes ≡ over l.initial.bytes l.to (part l.initial.bytes l.from l.j))
-
-abbrev pub decreases-loop-j : goal.decreases-loop-j
-decreases-loop-j l = l.n - l.j
+invariant-loop-j l = l.bytes ≡ over l.initial.bytes l.to (part l.initial.bytes l.from l.j)

@@ -1,7 +1,7 @@
 -- `put_nulls` meets its contract. Assumes nothing.
 use mathlib.Core.Path.{◌≡◌, ap}
 use native.Mathlib.Omega.{arith}
-use Prim.Native.Nat.{ℕ, ◌-◌}
+use Prim.Native.Nat.{ℕ, ◌+◌, ◌-◌}
 use Rattle.wire.specs.Line.{line_of}
 use Rattle.wire.specs.Reel.{reel_of_raw}
 use Rattle.tape.specs.Programme.{nulls_of}
@@ -9,23 +9,23 @@ use Rattle.items.proofs.LawsOfLaid.{rest_start, rest_stop, rest_room, rest_turn}
 use Rattle.frames.proofs.Laws.{nulls_more}
 use Rattle.frames.proofs.put_nulls.Goals as goal
 
-pub loop-left-init : goal.loop-left-init
-loop-left-init c = let a = c.args in rest_start a.out.now a.n (reel_of_raw (nulls_of a.count))
+pub loop-init : goal.loop-init
+loop-init c = let a = c.args in let e : a.count - 0 ≡ a.count = omega arith in rw e (rest_start a.out.now a.n (reel_of_raw (nulls_of a.count)))
 
 pub put_line-m-requires : goal.put_line-m-requires
 put_line-m-requires c =
     let a = c.args in
-    let left = c.loop-left.left in
-    rest_room a.out.now a.n (reel_of_raw (nulls_of a.count)) (line_of 0x80 0x80) (reel_of_raw (nulls_of (left - 1))) c.loop-left.invariant (nulls_more left (omega arith)) c.requires
+    let i = c.loop.counter in
+    rest_room a.out.now a.n (reel_of_raw (nulls_of a.count)) (line_of 0x80 0x80) (reel_of_raw (nulls_of (a.count - (i + 1)))) c.loop.invariant (nulls_more a.count i (omega arith)) c.requires
 
-pub loop-left-preserved : goal.loop-left-preserved
-loop-left-preserved c =
+pub loop-preserved : goal.loop-preserved
+loop-preserved c =
     let a = c.args in
-    let left = c.loop-left.left in
-    rest_turn a.out.now a.n (reel_of_raw (nulls_of a.count)) (line_of 0x80 0x80) (reel_of_raw (nulls_of (left - 1))) c.loop-left.invariant (nulls_more left (omega arith)) c.put_line-m.ensures
+    let i = c.loop.counter in
+    rest_turn a.out.now a.n (reel_of_raw (nulls_of a.count)) (line_of 0x80 0x80) (reel_of_raw (nulls_of (a.count - (i + 1)))) c.loop.invariant (nulls_more a.count i (omega arith)) c.put_line-m.ensures
 
 pub returns : goal.returns
 returns c =
     let a = c.args in
-    let none : c.loop-left.left ≡ 0 = omega arith in
-    rest_stop a.out.now a.n (reel_of_raw (nulls_of a.count)) c.loop-left.invariant (ap (λ (k : ℕ). reel_of_raw (nulls_of k)) none)
+    let none : a.count - c.loop.counter ≡ 0 = omega arith in
+    rest_stop a.out.now a.n (reel_of_raw (nulls_of a.count)) c.loop.invariant (ap (λ (k : ℕ). reel_of_raw (nulls_of k)) none)

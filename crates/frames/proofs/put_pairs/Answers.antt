@@ -1,31 +1,28 @@
 -- `put_pairs` meets its contract. Assumes nothing.
+use mathlib.Core.Path.{ap, ◌∙◌}
 use native.Mathlib.Omega.{arith}
-use Prim.Native.Nat.{◌+◌}
-use lib.ListN.{get_or, drop}
+use lib.ListN.{get_or}
+use Rattle.std.specs.Slice.Iter.{chunks_exact_rest}
 use Rattle.wire.specs.Line.{line_of}
 use Rattle.wire.specs.Reel.{reel_of_raw}
-use Rattle.items.proofs.LawsOfLaid.{rest_start, rest_stop, rest_room, rest_turn}
+use Rattle.items.proofs.LawsOfLaid.{rest_stop, rest_turn}
 use Rattle.frames.proofs.Laws.{reel_more, reel_end}
 use Rattle.frames.proofs.put_pairs.Goals as goal
 
-pub loop-i-init : goal.loop-i-init
-loop-i-init c = let a = c.args in (omega arith, rest_start a.out.now a.n (reel_of_raw a.raw.now))
-
-pub put_line-m-requires : goal.put_line-m-requires
-put_line-m-requires c =
+pub loop-pair-preserved : goal.loop-pair-preserved
+loop-pair-preserved c =
     let a = c.args in
-    let raw = a.raw.now in
-    let i = c.loop-i.i in
-    rest_room a.out.now a.n (reel_of_raw raw) (line_of (get_or raw i 0) (get_or raw (i + 1) 0)) (reel_of_raw (drop (i + 2) raw)) c.loop-i.invariant.1 (reel_more raw i (omega arith)) c.requires
-
-pub loop-i-preserved : goal.loop-i-preserved
-loop-i-preserved c =
-    let a = c.args in
-    let raw = a.raw.now in
-    let i = c.loop-i.i in
-    (omega arith, rest_turn a.out.now a.n (reel_of_raw raw) (line_of (get_or raw i 0) (get_or raw (i + 1) 0)) (reel_of_raw (drop (i + 2) raw)) c.loop-i.invariant.1 (reel_more raw i (omega arith)) c.put_line-m.ensures)
+    let l = c.loop-pair.invariant in
+    let turn = c.in-Some.ensures.steps in
+    let pair = c.in-Some.pair.now in
+    let rest = chunks_exact_rest c.next.new.self in (
+      turn.0 ∙ l.0,
+      rest_turn a.out.now a.n (reel_of_raw a.raw.now) (line_of (get_or pair 0 0) (get_or pair 1 0)) (reel_of_raw rest) l.1
+          (ap reel_of_raw turn.1.0 ∙ reel_more pair rest (turn.1.1 ∙ l.0)) c.put_line-m.ensures,
+    )
 
 pub returns : goal.returns
 returns c =
     let a = c.args in
-    rest_stop a.out.now a.n (reel_of_raw a.raw.now) c.loop-i.invariant.1 (reel_end a.raw.now c.loop-i.i (omega arith))
+    let l = c.loop-pair.invariant in
+    rest_stop a.out.now a.n (reel_of_raw a.raw.now) l.1 (reel_end (chunks_exact_rest c.loop-pair.pair-iterator) (omega (arith, c.in-None.ensures.steps)))

@@ -5,7 +5,4 @@ use Rattle.lines.specs.Span.{code_at}
 use Rattle.lines.proofs.end.Given as goal
 
 abbrev pub invariant-loop-k : goal.invariant-loop-k
-invariant-loop-k l = (l.k ≤ 32) × ((j : ℕ) → l.k ≤ j → j < 32 → code_at l.screen l.at j ≡ 0)
-
-abbrev pub decreases-loop-k : goal.decreases-loop-k
-decreases-loop-k l = l.k
+invariant-loop-k l = (j : ℕ) → l.k ≤ j → j < 32 → code_at l.screen l.at j ≡ 0

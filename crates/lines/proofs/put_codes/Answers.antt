@@ -1,10 +1,7 @@
 -- `put_codes` meets its contract. Assumes nothing.
-use mathlib.Core.Path.{◌≡◌, refl, ap, sym, ◌∙◌}
-use Prim.Native.Nat.{ℕ, ◌+◌, ◌-◌, ◌*◌}
+use mathlib.Core.Path.{◌≡◌, sym}
+use Prim.Native.Nat.{◌-◌}
 use native.Mathlib.Omega.{arith}
-use lib.ListN.{length-set}
-use borrow.Author.Rules.{rules}
-use Rattle.facts.specs.Over.{over}
 use Rattle.facts.proofs.Over.{over_nil}
 use Rattle.lines.specs.Line.{codes_of}
 use Rattle.lines.proofs.Laws.{length_codes_of}
@@ -15,59 +12,25 @@ pub loop-k-init : goal.loop-k-init
 unfolding codes_of
 loop-k-init c =
     let a = c.args in
-    let e : a.from - a.from ≡ 0 = omega arith in
-    (search rules, omega arith, omega arith, refl, sym (over_nil a.out.now a.n) ∙ ap (λ (j : ℕ). over a.out.now a.n (codes_of a.screen.now a.at a.from j)) (sym e))
-
-pub overflow_mul-code : goal.overflow_mul-code
-overflow_mul-code c = omega arith
-
-pub overflow_add-code : goal.overflow_add-code
-overflow_add-code c = omega arith
-
-pub bounds-screen-at : goal.bounds-screen-at
-bounds-screen-at c = omega arith
-
-pub hex-requires : goal.hex-requires
-hex-requires c =
-    omega (arith, c.type_inv.screen (c.args.at + c.loop-k.k * 2))
-
-pub bounds-out-m : goal.bounds-out-m
-bounds-out-m c = omega arith
-
-pub overflow_add-out : goal.overflow_add-out
-overflow_add-out c = omega arith
-
-pub bounds-out-m-in-loop-k : goal.bounds-out-m-in-loop-k
-bounds-out-m-in-loop-k c = simp length-set (omega arith)
-
-pub overflow_add-m : goal.overflow_add-m
-overflow_add-m c = omega arith
-
-pub overflow_add-k : goal.overflow_add-k
-overflow_add-k c = omega arith
-
-pub loop-k-smaller : goal.loop-k-smaller
-loop-k-smaller c = omega arith
+    let none : a.from - a.from ≡ 0 = omega arith in
+    record { high = omega arith; next = omega arith; bytes = rw none (sym (over_nil a.out.now 0)) }
 
 pub loop-k-preserved : goal.loop-k-preserved
 loop-k-preserved c =
     let a = c.args in
-    let p = c.loop-k in (
-      omega arith,
-      omega arith,
-      omega arith,
-      simp length-set (omega arith),
-      codes_more a.out.now a.n a.screen.now a.at a.from p.k p.m (omega arith) p.invariant.2 p.invariant.4 c.hex.ensures c.hex-in-loop-k.ensures,
-    )
+    let l = c.loop-k in record {
+      high = omega arith;
+      next = omega arith;
+      bytes = codes_more a.out.now a.screen.now a.at a.from l.k l.n (omega arith) l.invariant.next l.invariant.bytes c.hex.ensures c.hex-in-loop-k.ensures;
+    }
 
 pub returns : goal.returns
 returns c =
     let a = c.args in
-    let p = c.loop-k in
-    let e : p.k - a.from ≡ a.end - a.from = omega arith in
-    let n = length_codes_of a.screen.now a.at a.from (a.end - a.from) in
+    let l = c.loop-k in
+    let e : l.k - a.from ≡ a.end - a.from = omega arith in
     record {
-      bytes = p.invariant.4 ∙ ap (λ (j : ℕ). over a.out.now a.n (codes_of a.screen.now a.at a.from j)) e;
-      next = omega arith;
+      bytes = rw e at l.invariant.bytes;
+      next = omega (arith, length_codes_of a.screen.now a.at a.from (a.end - a.from));
       room = omega arith;
     }

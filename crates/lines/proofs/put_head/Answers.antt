@@ -1,14 +1,16 @@
 -- `put_head` meets its contract. Assumes nothing.
 use native.Mathlib.Omega.{arith}
-use Prim.Native.Nat.{◌+◌}
-use Rattle.lines.specs.Line.{frame_of, head_of}
-use Rattle.facts.proofs.Over.{over_then}
-use Rattle.lines.proofs.Laws.{length_frame_of}
+use mathlib.Core.List.{◌++◌}
+use Rattle.lines.specs.Line.{frame_of, row_of, head_of}
+use Rattle.facts.proofs.Tail.{tail_then}
 use Rattle.lines.proofs.put_head.Goals as goal
 
 pub returns : goal.returns
-unfolding head_of
+unfolding head_of frame_of row_of
 returns c =
     let a = c.args in
-    over_then a.out.now a.n (frame_of a.from) _ (a.n + 6) (omega (arith, length_frame_of a.from)) c.put_frame.ensures
-    (over_then c.put_frame.new.out (a.n + 6) (frame_of a.to) _ (a.n + 12) (omega (arith, length_frame_of a.to)) c.put_frame-2.ensures c.put_row.ensures)
+    let d = a.out.now in
+    let one = rw c.frame_text.ensures at c.copy.ensures in
+    let two = rw c.frame_text-2.ensures at c.copy-2.ensures in
+    let three = rw c.row_text.ensures at c.copy-3.ensures in
+    tail_then d (frame_of a.from ++ frame_of a.to) (row_of a.row.0) 12 (omega arith) (omega arith) (tail_then d (frame_of a.from) (frame_of a.to) 6 (omega arith) (omega arith) one two) three

@@ -1,18 +1,14 @@
 -- `put_refused` meets its contract. Assumes nothing.
-use mathlib.Core.List.{[], ◌∷◌}
-use mathlib.Core.Path.{ap, refl, ◌∙◌}
 use native.Mathlib.Omega.{arith}
-use Prim.Native.Nat.{ℕ, ◌+◌}
-use Rattle.facts.specs.Over.{over}
 use Rattle.lines.specs.Line.{frame_of, refused_of}
-use Rattle.facts.proofs.Over.{over_then}
-use Rattle.lines.proofs.Laws.{length_frame_of}
+use Rattle.facts.proofs.Tail.{tail_then}
 use Rattle.lines.proofs.put_refused.Goals as goal
 
 pub returns : goal.returns
-unfolding refused_of
+unfolding refused_of frame_of
 returns c =
     let a = c.args in
-    over_then a.out.now a.n _ _ (a.n + 8) refl c.put.ensures
-    (over_then c.put.new.out (a.n + 8) (frame_of a.frame) _ (a.n + 14) (omega (arith, length_frame_of a.frame)) c.put_frame.ensures
-    (c.put-2.ensures ∙ ap (λ (x : ℕ). over c.put_frame.new.out (a.n + 14) (x ∷ 0x0a ∷ [])) c.digit.ensures))
+    let d = a.out.now in
+    let two = rw c.frame_text.ensures at c.copy-2.ensures in
+    let three = rw c.digit.ensures at c.copy-3.ensures in
+    tail_then d _ _ 14 (omega arith) (omega arith) (tail_then d _ (frame_of a.frame) 8 (omega arith) (omega arith) c.copy.ensures two) three

@@ -1,6 +1,6 @@
 -- `loikrasun_take` meets its contract. Assumes nothing.
-use Rattle.loikrasun.proofs.Laws.{ended_packed}
+use Rattle.loikrasun.proofs.Laws.{desk_packed, ended_packed}
 use Rattle.loikrasun.proofs.loikrasun_take.Goals as goal
 
 pub returns : goal.returns
-returns c = ended_packed c.pack_answer.ensures c.take.ensures
+returns c = ended_packed (desk_packed c.take.result c.pack_answer.ensures) c.take.ensures

@@ -10,15 +10,15 @@ use Rattle.record.proofs.LawsOfCounts.{counts_to, counts_more, counts_of-rows}
 use Rattle.record.proofs.write_counts.Goals as goal
 
 pub loop-r-init : goal.loop-r-init
-loop-r-init c = (search rules, search rules, sym (over_nil c.args.bytes.now 19))
+loop-r-init c = (search rules, sym (over_nil c.args.bytes.now 19))
 
 pub loop-r-preserved : goal.loop-r-preserved
 loop-r-preserved c =
     let a = c.args in
-    (search rules, search rules, counts_more a.bytes.now c.loop-r.r (omega arith) c.loop-r.invariant.2 c.count_cells.ensures)
+    (search rules, counts_more a.bytes.now c.loop-r.r (omega arith) c.loop-r.invariant.1 c.count_cells.ensures)
 
 pub returns : goal.returns
 returns c =
     let bs = c.args.bytes.now in
     let e : c.loop-r.r ≡ 30 = omega arith in
-    c.loop-r.invariant.2 ∙ ap (λ (n : ℕ). over bs 19 (counts_to (drop 64 bs) n)) e ∙ ap (over bs 19) (sym (counts_of-rows (drop 64 bs)))
+    c.loop-r.invariant.1 ∙ ap (λ (n : ℕ). over bs 19 (counts_to (drop 64 bs) n)) e ∙ ap (over bs 19) (sym (counts_of-rows (drop 64 bs)))

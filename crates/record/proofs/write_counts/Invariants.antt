@@ -7,7 +7,4 @@ use Rattle.record.proofs.LawsOfCounts.{counts_to}
 use Rattle.record.proofs.write_counts.Given as goal
 
 abbrev pub invariant-loop-r : goal.invariant-loop-r
-invariant-loop-r l = (l.r ≤ 30) × (length l.bytes ≡ length l.initial.bytes) × (l.bytes ≡ over l.initial.bytes 19 (counts_to (drop 64 l.initial.bytes) l.r))
-
-abbrev pub decreases-loop-r : goal.decreases-loop-r
-decreases-loop-r l = 30 - l.r
+invariant-loop-r l = (length l.bytes ≡ length l.initial.bytes) × (l.bytes ≡ over l.initial.bytes 19 (counts_to (drop 64 l.initial.bytes) l.r))

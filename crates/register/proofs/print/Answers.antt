@@ -1,45 +1,17 @@
 -- `print` meets its contract. Assumes nothing.
-use mathlib.Core.Path.{sym}
-use native.Mathlib.Omega.{arith}
-use lib.Seq.{length-take-le}
-use Rattle.register.proofs.Laws.{printing_start, printing_more, printing_less, printing_end, goes_on, is_done}
+use Rattle.register.proofs.Laws.{printing_start, printing_less, printing_more, printing_end}
 use Rattle.register.proofs.print.Goals as goal
 
-pub loop-w-init : goal.loop-w-init
-loop-w-init g c = printing_start c.args.reel.now c.start-w.ensures
+pub loop-cells-init : goal.loop-cells-init
+loop-cells-init g c = printing_start c.args.reel.now c.start-w.ensures
 
-pub next_piece-p-requires : goal.next_piece-p-requires
-next_piece-p-requires g c = c.loop-w.invariant.fit
+pub loop-cells-smaller : goal.loop-cells-smaller
+loop-cells-smaller g c = printing_less _ _ c.loop-cells.invariant (rw c.is_live.ensures at c.loop-cells-test.true) c.next_piece-p.ensures.0
 
-pub slice_bounds-out-end : goal.slice_bounds-out-end
-slice_bounds-out-end g c = let e = c.next_piece-p.ensures in omega (arith, e.1, e.2)
-
-pub slice_bounds-send-end : goal.slice_bounds-send-end
-slice_bounds-send-end g c = let e = c.next_piece-p.ensures in sym (length-take-le _ _ (omega (arith, e.1, e.2)))
-
-pub send-sent-requires : goal.send-sent-requires
-send-sent-requires g c =
-    let l = c.loop-w in
-    let small = l.invariant.small in
+pub loop-cells-preserved : goal.loop-cells-preserved
+loop-cells-preserved g c =
     let e = c.next_piece-p.ensures in
-    let on = goes_on l.w.stage l.sent.failed c.loop-w-test.true in
-    let m = length-take-le c.next_piece-p.result.n c.next_piece-p.new.out (omega (arith, e.1, e.2)) in
-    omega (arith, m, e.1, printing_less _ _ l.invariant on.0 e.0)
-
-pub loop-w-smaller : goal.loop-w-smaller
-loop-w-smaller g c =
-    let l = c.loop-w in
-    printing_less _ _ l.invariant (goes_on l.w.stage l.sent.failed c.loop-w-test.true).0 c.next_piece-p.ensures.0
-
-pub loop-w-preserved : goal.loop-w-preserved
-loop-w-preserved g c =
-    let l = c.loop-w in
-    let e = c.next_piece-p.ensures in
-    let on = goes_on l.w.stage l.sent.failed c.loop-w-test.true in
-    let m = length-take-le c.next_piece-p.result.n c.next_piece-p.new.out (omega (arith, e.1, e.2)) in
-    printing_more _ _ l.invariant on.0 e.0 on.1 e.1 (rw m at c.send-sent.ensures)
+    printing_more _ _ c.loop-cells.invariant (rw c.is_live.ensures at c.loop-cells-test.true) e.0 (e.1, e.2) c.in_ok-sent.ensures
 
 pub returns : goal.returns
-returns g c =
-    let l = c.loop-w in
-    λ whole. printing_end _ l.invariant (is_done l.w.stage l.sent.failed c.loop-w-test.false whole) whole
+returns g c = printing_end _ c.loop-cells.invariant (rw c.is_live.ensures at c.loop-cells-test.false)

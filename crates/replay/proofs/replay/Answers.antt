@@ -6,7 +6,7 @@ use Prim.Native.Nat.{ℕ, ◌+◌, ◌-◌, ◌*◌, ◌≤◌, ◌<◌}
 use native.Mathlib.Omega.{arith}
 use lib.ListN.{length, get_or}
 use borrow.Author.Rules.{rules}
-use Rattle.standing.proofs.Within.{replay_none, replay_more, replay_keeps_sound}
+use Rattle.standing.proofs.Within.{replay_none, replay_keeps_sound}
 use Rattle.standing.specs.Calls.{replay_of}
 use Rattle.standing.specs.Acts.{are_formed}
 use Rattle.decode.specs.Sound.{SoundDesk}
@@ -14,7 +14,7 @@ use Rattle.state.specs.declared.State.{State}
 use Rattle.state.specs.State.{Desk, desk}
 use Rattle.replay.specs.Captions.{caption_decoder}
 use Rattle.replay.proofs.Laws.{caption_decoder_lawful}
-use Rattle.replay.proofs.LawsOfReplay.{replay_join}
+use Rattle.replay.proofs.LawsOfReplay.{replay_join, replay_entry}
 use Rattle.replay.proofs.replay.Goals as goal
 
 -- a desk that n of the acts lead to is sound and has counted them
@@ -46,7 +46,7 @@ type_run-state-requires c =
     let room : a.start.acts + a.count ≤ 16000 = c.requires.1 in
     let whole : (a.from + a.count) * 3 ≤ length a.log.now = c.requires.2 in
     let most : a.from + a.count ≤ 16000 = c.requires.3 in
-    let e = replay_more caption_decoder (desk a.start a.cells.now) a.log.now a.from c.loop-n.n c.loop-n.invariant.2 c.step-state.ensures in
+    let e = replay_entry (desk a.start a.cells.now) a.log.now a.from c.loop-n.n c.at.ensures c.loop-n.invariant.2 c.step-state.ensures in
     let sound = sound_at a.start a.cells.now a.log.now a.from a.count c.requires.0 c.requires.1 (λ i. omega (arith, c.type_inv.log i)) c.requires.4 (c.loop-n.n + 1) c.step-state.result (omega arith) e in
     let acts = sound.1 in
     (sound.0, sym c.is_none_expected.ensures ∙ c.if-is_none_expected.true, omega arith, omega arith, omega arith)
@@ -74,7 +74,7 @@ loop-n-preserved-then-is_none_expected c =
     let most = c.type_run-state.ensures.1 in
     let more = c.loop-n-test.true in
     let k = c.type_run-state.result.acts - c.step-state.result.acts in
-    let e = replay_more caption_decoder d a.log.now a.from c.loop-n.n c.loop-n.invariant.2 c.step-state.ensures in (
+    let e = replay_entry d a.log.now a.from c.loop-n.n c.at.ensures c.loop-n.invariant.2 c.step-state.ensures in (
       omega arith,
       search rules,
       c.type_run-state.ensures.2
@@ -86,7 +86,7 @@ pub loop-n-preserved : goal.loop-n-preserved
 loop-n-preserved c =
     let a = c.args in
     let more = c.loop-n-test.true in
-    (omega arith, search rules, replay_more caption_decoder (desk a.start a.cells.now) a.log.now a.from c.loop-n.n c.loop-n.invariant.2 c.step-state.ensures)
+    (omega arith, search rules, replay_entry (desk a.start a.cells.now) a.log.now a.from c.loop-n.n c.at.ensures c.loop-n.invariant.2 c.step-state.ensures)
 
 pub returns : goal.returns
 returns c =

@@ -1,6 +1,5 @@
 -- `type_run` meets its contract. Assumes nothing.
 use mathlib.Core.Path.{◌≡◌}
-use Prim.Native.Nat.{◌-◌, ◌≤◌}
 use lib.ListN.{length}
 use Rattle.cell.specs.Cursor.{Placed}
 use Rattle.state.specs.State.{desk}
@@ -9,9 +8,9 @@ use Rattle.standing.specs.Calls.{replay_of}
 use Rattle.replay.specs.Captions.{caption_decoder}
 use Rattle.replay.proofs.type_run.Given as goal
 
-abbrev pub invariant-loop-at : goal.invariant-loop-at
-invariant-loop-at l =
-    (l.n ≤ l.count) × (length l.cells ≡ length l.initial.cells) × Placed l.cursor × (desk (typed_of l.start l.cursor l.n) l.cells ≡ replay_of caption_decoder (desk l.start l.initial.cells) l.log l.from l.n)
-
-abbrev pub decreases-loop-at : goal.decreases-loop-at
-decreases-loop-at l = l.count - l.n
+abbrev pub invariant-loop-n : goal.invariant-loop-n
+invariant-loop-n l = record {
+  size : length l.cells ≡ length l.initial.cells;
+  placed : Placed l.cursor;
+  typed : desk (typed_of l.start l.cursor l.n) l.cells ≡ replay_of caption_decoder (desk l.start l.initial.cells) l.log l.from l.n;
+}

@@ -1,35 +1,28 @@
 -- `make` meets its contract. Assumes nothing.
-use mathlib.Core.Path.{◌≡◌}
+use mathlib.Core.Path.{◌∙◌}
 use native.Mathlib.Omega.{arith}
-use lib.Dec.{eqb}
-use mathlib.Core.Bool.{true, ◌&&◌}
-use Prim.Native.Nat.{ℕ, ◌%◌}
-use lib.ListN.{length}
 use borrow.Author.Rules.{rules}
-use borrow.Author.Tests.{eqb-true}
-use Rattle.facts.proofs.Choice.{and_left}
-use Rattle.script.specs.Script.{show_last_of}
-use Rattle.steps.proofs.LawsOfHand.{goes_then}
-use Rattle.script.proofs.LawsOfMake.{blank_is, make_done, make_refused}
+use Rattle.script.proofs.LawsOfMake.{blank_is, make_done, make_roomless, make_broken}
 use Rattle.script.proofs.make.Goals as goal
+use Rattle.script.proofs.make.Goals.{then-out-ne80000-via-then-out-ne80000, then-out-ne80000-via-else-out-ne80000+then-script-ne0}
 
--- a reel has room for 16,000 lines
-roomy : (room rest : ℕ) → (eqb room 80000 && eqb rest 0) ≡ true → room ≡ 80000
-roomy room rest t = eqb-true room 80000 (and_left (eqb room 80000) (eqb rest 0) t)
+pub returns-then-out-ne80000 : goal.returns-then-out-ne80000
+returns-then-out-ne80000 c =
+    let script = c.args.script.now in
+    let out = c.args.out.now in
+    elim c.then-out-ne80000.branch [
+      | then-out-ne80000-via-then-out-ne80000 w ↦ make_roomless script out w.if-out-ne80000.true
+      | then-out-ne80000-via-else-out-ne80000+then-script-ne0 w ↦ make_broken script out w.if-out-ne80000.false w.if-script-ne0.true
+    ]
 
 pub reach-reached-requires : goal.reach-reached-requires
-reach-reached-requires c = (blank_is, roomy (length c.args.out.now) (length c.args.script.now % 40) c.if-out-script.true)
+reach-reached-requires c = (blank_is, search rules)
 
-pub show_last-last-requires : goal.show_last-last-requires
-show_last-last-requires c =
-    let size = roomy (length c.args.out.now) (length c.args.script.now % 40) c.if-out-script.true in
-    (c.reach-reached.ensures.0, search rules, omega arith)
-
-pub returns-then-out-script : goal.returns-then-out-script
-returns-then-out-script c =
-    let a = c.args in
-    make_done a.script.now a.out.now c.if-out-script.true c.reach-reached.ensures.1
-    (goes_then show_last_of c.reach-reached.result.hand _ _ a.out.now c.reach-reached.ensures.2 c.show_last-last.ensures.1)
+pub overflow_mul-result : goal.overflow_mul-result
+overflow_mul-result c = let fit = c.show_last-last.ensures.fit in omega (arith, fit.room)
 
 pub returns : goal.returns
-returns c = let a = c.args in make_refused a.script.now a.out.now c.if-out-script.false
+returns c =
+    let a = c.args in
+    make_done a.script.now a.out.now c.if-out-ne80000.false c.if-script-ne0.false (c.show_last-last.ensures.kept ∙ c.reach-reached.ensures.kept)
+    (c.show_last-last.ensures.goes _ a.out.now c.reach-reached.ensures.goes)

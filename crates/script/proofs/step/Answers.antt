@@ -1,86 +1,50 @@
 -- `step` meets its contract. Assumes nothing.
-use mathlib.Core.Path.{◌≡◌, refl, ap, ◌∙◌}
-use mathlib.Core.Bool.{true, ◌&&◌}
-use Prim.Native.Nat.{ℕ, ◌+◌, ◌-◌, ◌≤◌}
+use mathlib.Core.Path.{◌≡◌, refl, ap}
+use Prim.Native.Nat.{◌+◌, ◌-◌}
 use native.Mathlib.Omega.{arith}
-use lib.Dec.{eqb, leb}
-use lib.ListN.{get_or, take, drop}
-use borrow.Rule.Slice.PartMut.{mid_len}
-use borrow.Author.Rules.{rules}
-use borrow.Author.Tests.{leb-true}
-use Rattle.facts.proofs.Choice.{and_right}
-use Rattle.steps.specs.Take.{Went, take as taking}
-use Rattle.steps.proofs.LawsOfHand.{fit_same, does_stopped}
-use Rattle.script.specs.Step.{puts, shows, clears, waits, selects, step_at}
+use lib.ListN.{get_or}
+use borrow.Author.Tests.{le-leb, lt-leb}
+use Rattle.steps.specs.Take.{Take}
+use Rattle.steps.specs.Hand.{take_of}
+use Rattle.steps.proofs.LawsOfHand.{does_stopped}
+use Rattle.script.specs.Step.{none, step_at}
 use Rattle.script.specs.Script.{step_of}
-use Rattle.script.proofs.LawsOfSteps.{does_step, step_puts, step_shows, step_clears, step_waits, step_selects, step_none}
+use Rattle.script.proofs.LawsOfSteps.{step_none}
 use Rattle.script.proofs.step.Goals as goal
 
--- a step that types has at most a row of codes
-few : (kind count : ℕ) → (eqb kind 1 && leb count 32) ≡ true → count ≤ 32
-few kind count t = leb-true count 32 (and_right (eqb kind 1) (leb count 32) t)
-
-pub overflow_cast-end : goal.overflow_cast-end
-overflow_cast-end c = omega (arith, few (get_or c.args.script.now c.args.at 0) (get_or c.args.script.now (c.args.at + 4) 0) c.if-kind-count.true)
-
-pub overflow_add-end : goal.overflow_add-end
-overflow_add-end c = omega (arith, few (get_or c.args.script.now c.args.at 0) (get_or c.args.script.now (c.args.at + 4) 0) c.if-kind-count.true)
-
-pub slice_bounds-put-end : goal.slice_bounds-put-end
-slice_bounds-put-end c = omega (arith, few (get_or c.args.script.now c.args.at 0) (get_or c.args.script.now (c.args.at + 4) 0) c.if-kind-count.true)
-
-pub put-requires : goal.put-requires
-put-requires c =
-    let most = few (get_or c.args.script.now c.args.at 0) (get_or c.args.script.now (c.args.at + 4) 0) c.if-kind-count.true in
+pub returns-in-1-clause-does : goal.returns-in-1-clause-does
+unfolding step_at
+returns-in-1-clause-does c =
     let a = c.args in
-    let script = a.script.now in
-    let lent = mid_len (a.at + 8) (a.at + 8 + get_or script (a.at + 4) 0) script (omega arith) in
-    (search rules, search rules, omega arith)
+    let n = get_or a.script.now (a.at + 4) 0 in
+    let cut : a.at + 8 + n - (a.at + 8) ≡ n = omega arith in
+    rw (c.in-1.is, le-leb n 32 c.if-count-le32.true) (rw cut at (c.put.ensures.does a.out.now))
 
-pub returns-then-kind-count : goal.returns-then-kind-count
-returns-then-kind-count c =
-    let a = c.args in
-    let script = a.script.now in
-    let n = get_or script (a.at + 4) 0 in
-    let cut : n ≡ a.at + 8 + n - (a.at + 8) = omega arith in
-    let e = step_puts script a.at c.if-kind-count.true
-    ∙ ap (λ (k : ℕ). puts (get_or script (a.at + 1) 0) (get_or script (a.at + 2) 0) (get_or script (a.at + 3) 0) (take k (drop (a.at + 8) script))) cut in
-    (c.put.ensures.0, does_step a.hand a.screen.now a.out.now script a.at _ e (c.put.ensures.1 a.out.now))
+pub returns-in-2-clause-does : goal.returns-in-2-clause-does
+unfolding step_at
+returns-in-2-clause-does c = rw (c.in-2.is, ← c.from_le_bytes-number.ensures) c.show.ensures.does
 
-pub returns-then-kind-eq2 : goal.returns-then-kind-eq2
-returns-then-kind-eq2 c =
-    let a = c.args in
-    let script = a.script.now in
-    let e = step_shows script a.at c.if-kind-count.false c.number-number.result c.number-number.ensures.0 c.if-kind-eq2.true in
-    (c.show.ensures.0, does_step a.hand a.screen.now a.out.now script a.at (shows c.number-number.result) e c.show.ensures.1)
+pub returns-in-3-clause-does : goal.returns-in-3-clause-does
+unfolding step_at
+returns-in-3-clause-does c = rw c.in-3.is (rw c.from_le_bytes-number.ensures at (c.clear.ensures.does c.args.screen.now))
 
-pub returns-then-kind-eq3 : goal.returns-then-kind-eq3
-returns-then-kind-eq3 c =
-    let a = c.args in
-    let script = a.script.now in
-    let e = step_clears script a.at c.if-kind-count.false c.number-number.result c.number-number.ensures.0 c.if-kind-eq3.true in
-    (c.clear.ensures.0, does_step a.hand a.screen.now a.out.now script a.at (clears c.number-number.result) e (c.clear.ensures.1 a.screen.now))
+pub returns-in-4-clause-does : goal.returns-in-4-clause-does
+unfolding step_at
+returns-in-4-clause-does c = rw (c.in-4.is, ← c.from_le_bytes-number.ensures) (c.wait.ensures.does c.args.screen.now)
 
-pub returns-then-kind-eq4 : goal.returns-then-kind-eq4
-returns-then-kind-eq4 c =
-    let a = c.args in
-    let script = a.script.now in
-    let e = step_waits script a.at c.if-kind-count.false c.number-number.result c.number-number.ensures.0 c.if-kind-eq4.true in
-    (c.wait.ensures.0, does_step a.hand a.screen.now a.out.now script a.at (waits c.number-number.result) e (c.wait.ensures.1 a.screen.now))
+pub returns-in-5-clause-does : goal.returns-in-5-clause-does
+unfolding step_at
+returns-in-5-clause-does c = rw (c.in-5.is, ← c.from_le_bytes-number.ensures) (c.switch.ensures.does c.args.screen.now c.args.out.now)
 
-pub returns-then-kind-eq5 : goal.returns-then-kind-eq5
-returns-then-kind-eq5 c =
+pub returns-in_default-clause-does : goal.returns-in_default-clause-does
+unfolding step_at
+returns-in_default-clause-does c =
     let a = c.args in
-    let script = a.script.now in
-    let e = step_selects script a.at c.if-kind-count.false c.number-number.result c.number-number.ensures.0 c.if-kind-eq5.true in
-    (c.switch.ensures.0, does_step a.hand a.screen.now a.out.now script a.at (selects c.number-number.result) e (c.switch.ensures.1 a.screen.now a.out.now))
+    rw (c.in-1.is, lt-leb (get_or a.script.now (a.at + 4) 0) 32 c.if-count-le32.false)
+    (does_stopped (λ (t : Take). step_of t none) a.hand a.screen.now a.out.now (λ cues n. refl))
 
-pub returns : goal.returns
-returns c =
+pub returns-in_default-2-clause-does : goal.returns-in_default-2-clause-does
+returns-in_default-2-clause-does c =
     let a = c.args in
-    let script = a.script.now in
-    let e = step_none script a.at c.if-kind-count.false c.if-kind-eq2.false c.if-kind-eq3.false c.if-kind-eq4.false c.if-kind-eq5.false in (
-      fit_same a.hand c.stopped.ensures c.requires.0,
-      does_stopped (λ (w : Went). step_of w.to (step_at script a.at)) a.hand a.screen.now a.out.now 6 0 c.stopped.ensures refl
-          (λ cues n. ap (step_of (taking a.hand.channel a.hand.drawn a.screen.now cues)) e),
-    )
+    let e = step_none a.script.now a.at (λ k. absurd (omega arith)) (λ k. absurd (omega arith)) (λ k. absurd (omega arith)) (λ k. absurd (omega arith)) (λ k. absurd (omega arith)) in
+    does_stopped (λ (t : Take). step_of t (step_at a.script.now a.at)) a.hand a.screen.now a.out.now (λ cues n. ap (step_of (take_of a.hand a.screen.now cues)) e)

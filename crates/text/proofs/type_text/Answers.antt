@@ -1,25 +1,13 @@
 -- `type_text` meets its contract. Assumes nothing.
 use mathlib.Core.Path.{ap, sym, subst, ◌∙◌}
-use native.Mathlib.Omega.{arith}
 use Prim.Native.Nat.{◌+◌}
-use lib.ListN.{length}
 use Rattle.cell.specs.Cursor.{Placed}
 use Rattle.state.specs.State.{desk}
 use Rattle.typing.specs.Typing.{passed_of, put_of}
-use Rattle.typing.proofs.Laws.{passed_of_keeps_placed, length_put_of}
+use Rattle.typing.proofs.Laws.{passed_of_keeps_placed}
 use Rattle.text.specs.Typed.{typed_of}
 use Rattle.text.proofs.Laws.{text_typed, text_shut}
 use Rattle.text.proofs.type_text.Goals as goal
-
-pub put-requires : goal.put-requires
-put-requires c =
-    let a = c.args in
-    let put = c.put-between.ensures in
-    let code = c.text_code.result in
-    let early = c.memory-memory.ensures.1 in
-    let whole = c.requires.1 in
-    let size = ap length put.1 ∙ length_put_of a.cells.now c.memory-memory.result a.at code in
-    (record { early = omega arith; whole = omega arith }, subst Placed (sym put.0) (passed_of_keeps_placed a.at code c.requires.2))
 
 pub returns-then-is_open : goal.returns-then-is_open
 returns-then-is_open c =

@@ -44,8 +44,8 @@ replay_in_place-next-requires c =
     let a = c.args in
     let e = c.write_act.ensures in
     let size : length c.write_act.new.log ≡ length a.log.now =
-    ap length e ∙ length-over a.log.now (a.state.acts * 3) (a.kind ∷ a.first ∷ a.second ∷ []) in
-    let formed = logged_formed a.log.now a.state.acts a.kind a.first a.second inside c.requires.2 in
+    ap length e ∙ length-over a.log.now (a.state.acts * 3) (a.act.kind ∷ a.act.first ∷ a.act.second ∷ []) in
+    let formed = logged_formed a.log.now a.state.acts a.act.kind a.act.first a.act.second inside c.requires.2 in
     let less = few c.requires.1 c.requires.0.room in
     (c.requires.0.valid, c.requires.1, omega arith, omega (arith, size, inside), omega arith, subst (λ (l : List ℕ). are_formed l a.state.acts 1 ≡ true) (sym e) formed)
 
@@ -57,9 +57,9 @@ pub keep-requires : goal.keep-requires
 keep-requires c =
     let inside = fits c.requires.1 c.requires.0.room c.requires.0.log_size in
     let a = c.args in
-    let next = ap (λ (d : Desk). d.state.acts) (replayed a.desk.now a.log.now a.state.acts a.kind a.first a.second inside c.write_act.ensures) in
+    let next = ap (λ (d : Desk). d.state.acts) (replayed a.desk.now a.log.now a.state.acts a.act.kind a.act.first a.act.second inside c.write_act.ensures) in
     let acts : c.replay_in_place-next.result.acts ≡ count_of (read_of a.desk.now) + 1 =
-    ap (λ (x : State). x.acts) c.replay_in_place-next.ensures.1 ∙ next ∙ step_acts (read_of a.desk.now) (act_of a.kind a.first a.second) in
+    ap (λ (x : State). x.acts) c.replay_in_place-next.ensures.1 ∙ next ∙ step_acts (read_of a.desk.now) (act_of a.act.kind a.act.first a.act.second) in
     let less = c.requires.0.room in
     let size = is_valid-length a.desk.now c.requires.0.valid in
     let m = mid_len 64 1984 c.replay_in_place-next.new.desk (omega arith) in
@@ -68,9 +68,9 @@ keep-requires c =
 pub returns : goal.returns
 returns c =
     let inside = fits c.requires.1 c.requires.0.room c.requires.0.log_size in
-    let after : Desk = let a = c.args in after_of a.desk.now a.kind a.first a.second in
+    let after : Desk = let a = c.args in after_of a.desk.now a.act.kind a.act.first a.act.second in
     let a = c.args in
-    let e = replayed a.desk.now a.log.now a.state.acts a.kind a.first a.second inside c.write_act.ensures in
+    let e = replayed a.desk.now a.log.now a.state.acts a.act.kind a.act.first a.act.second inside c.write_act.ensures in
     let q = c.replay_in_place-next in
     let next : q.result ≡ after.state = q.ensures.1 ∙ ap (λ (d : Desk). d.state) e in
     let decoded : q.new.desk ≡ record_of after = q.ensures.0 ∙ ap record_of e in
@@ -79,6 +79,6 @@ returns c =
     record {
       counted = ap (λ (x : State). x.acts) next;
       decoded = decoded;
-      logged = c.write_act.ensures ∙ ap (λ (x : State). over a.log.now (x.acts * 3) (a.kind ∷ a.first ∷ a.second ∷ [])) c.requires.1;
+      logged = c.write_act.ensures ∙ ap (λ (x : State). over a.log.now (x.acts * 3) (a.act.kind ∷ a.act.first ∷ a.act.second ∷ [])) c.requires.1;
       kept = c.keep.ensures ∙ (λ i. keep_of caption_decoder a.tray.now (next i).acts (record_of (desk (next i) (cells i))));
     }

@@ -12,4 +12,4 @@ pub bounds-log-at-3 : goal.bounds-log-at-3
 bounds-log-at-3 c = simp length-set (omega arith)
 
 pub returns : goal.returns
-returns c = over-three c.args.log.now (c.args.acts * 3) c.args.kind c.args.first c.args.second
+returns c = over-three c.args.log.now (c.args.acts * 3) c.args.act.kind c.args.act.first c.args.act.second

@@ -4,7 +4,6 @@ use mathlib.Core.Bool.{◌&&◌}
 use Prim.Native.Nat.{ℕ, ◌+◌, ◌*◌}
 use native.Mathlib.Omega.{arith}
 use lib.ListN.{get_or}
-use borrow.Author.Rules.{rules}
 use Rattle.facts.specs.Every.{every}
 use Rattle.facts.proofs.Every.{every_more}
 use Rattle.valid.specs.Check.{is_counted, are_rows}
@@ -14,11 +13,11 @@ pub loop-r-preserved : goal.loop-r-preserved
 loop-r-preserved c =
     let bs = c.args.bytes.now in
     let ok = c.loop-r.ok in
-    (search rules, ap (λ t. ok && t) c.is_counted-ok.ensures ∙ every_more (λ (n : ℕ). is_counted bs (64 + n * 64) (get_or bs (19 + n) 0)) c.loop-r.r c.loop-r.invariant.1)
+    ap (λ t. ok && t) c.is_counted-ok.ensures ∙ every_more (λ (n : ℕ). is_counted bs (64 + n * 64) (get_or bs (19 + n) 0)) c.loop-r.r c.loop-r.invariant
 
 pub returns : goal.returns
 unfolding are_rows
 returns c =
     let bs = c.args.bytes.now in
     let e : c.loop-r.r ≡ 30 = omega arith in
-    c.loop-r.invariant.1 ∙ ap (every (λ n. is_counted bs (64 + n * 64) (get_or bs (19 + n) 0))) e
+    c.loop-r.invariant ∙ ap (every (λ n. is_counted bs (64 + n * 64) (get_or bs (19 + n) 0))) e

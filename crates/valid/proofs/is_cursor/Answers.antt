@@ -1,11 +1,15 @@
 -- `is_cursor` meets its contract. Assumes nothing.
-use mathlib.Core.Bool.{Bool, ◌&&◌}
-use mathlib.Core.Path.{ap}
-use Rattle.valid.specs.Valid.{is_within, is_cursor}
+use mathlib.Core.Bool.{◌&&◌}
+use Rattle.valid.specs.Valid.{is_cursor}
+use Rattle.valid.proofs.LawsOfRanges.{contains_within}
 use Rattle.valid.proofs.is_cursor.Goals as goal
 
 pub returns : goal.returns
 unfolding is_cursor
 returns c =
     let at = c.args.cursor in
-    ap (λ (ok : Bool). is_within 1 15 at.row.0 && is_within 1 32 at.column.0 && ok) c.is_pen.ensures
+    let n = c.new.ensures in
+    let m = c.new-2.ensures in
+    let row = contains_within c.new.result 1 15 at.row.0 n.start n.end n.exhausted c.contains.ensures.value in
+    let column = contains_within c.new-2.result 1 32 at.column.0 m.start m.end m.exhausted c.contains-2.ensures.value in
+    λ i. row i && column i && c.is_pen.ensures i

@@ -8,16 +8,16 @@ use Rattle.valid.specs.Check.{is_framed}
 use Rattle.valid.proofs.is_framed.Goals as goal
 
 pub rows_above-above-requires : goal.rows_above-above-requires
-rows_above-above-requires c = c.requires.2 c.if-mark-eq1.true
-
-pub returns-then-mark-eq1 : goal.returns-then-mark-eq1
-unfolding is_framed
-returns-then-mark-eq1 c =
-    let a = c.args in
-    let bs = a.bytes.now in
-    let top = c.is_blank.ensures ∙ ap (λ (k : ℕ). blank_of bs 64 (k * 64)) c.rows_above-above.ensures in
-    rw (eq-eqb a.mark 1 c.if-mark-eq1.true) (λ i. top i && c.is_blank-then-mark-eq1.ensures i)
+rows_above-above-requires c = c.requires.2 c.if-mark-ne1.false
 
 pub returns : goal.returns
 unfolding is_framed
-returns c = rw (ne_eqb c.args.mark 1 c.if-mark-eq1.false)
+returns c =
+    let a = c.args in
+    let bs = a.bytes.now in
+    let top = c.is_blank.ensures ∙ ap (λ (k : ℕ). blank_of bs 64 (k * 64)) c.rows_above-above.ensures in
+    rw (eq-eqb a.mark 1 c.if-mark-ne1.false) (λ i. top i && c.is_blank-2.ensures i)
+
+pub returns-then-mark-ne1 : goal.returns-then-mark-ne1
+unfolding is_framed
+returns-then-mark-ne1 c = rw (ne_eqb c.args.mark 1 c.if-mark-ne1.true)

@@ -2,7 +2,6 @@
 use mathlib.Core.Path.{◌≡◌, ap, sym, ◌∙◌}
 use mathlib.Core.Bool.{◌&&◌}
 use native.Mathlib.Omega.{arith}
-use borrow.Author.Rules.{rules}
 use Rattle.facts.specs.Every.{every}
 use Rattle.facts.proofs.Every.{every_more}
 use Rattle.valid.specs.Valid.{is_cell_at}
@@ -19,11 +18,11 @@ pub loop-j-preserved : goal.loop-j-preserved
 loop-j-preserved c =
     let a = c.args in
     let ok = c.loop-j.ok in
-    (search rules, ap (λ t. ok && t) c.is_cell-ok.ensures ∙ every_more (is_cell_at a.bytes.now a.at) c.loop-j.j c.loop-j.invariant.1)
+    ap (λ t. ok && t) c.is_cell-ok.ensures ∙ every_more (is_cell_at a.bytes.now a.at) c.loop-j.j c.loop-j.invariant
 
 pub returns : goal.returns
 unfolding is_row
 returns c =
     let a = c.args in
     let e : c.loop-j.j ≡ 32 = omega arith in
-    c.loop-j.invariant.1 ∙ ap (every (is_cell_at a.bytes.now a.at)) e
+    c.loop-j.invariant ∙ ap (every (is_cell_at a.bytes.now a.at)) e

@@ -8,18 +8,18 @@ use Rattle.valid.proofs.is_valid.Goals as goal
 pub is_framed-requires : goal.is_framed-requires
 is_framed-requires c =
     let s = c.read_state-state.result in
-    let valid = sym c.is_valid_state.ensures ∙ c.if-is_valid_state.true in
+    let valid = sym c.is_valid_state.ensures ∙ c.if-not-is_valid_state.false in
     (search rules, (is_valid_state_ranged s valid).roll.place.row_high, is_valid_state_fits s valid)
 
-pub returns-then-is_valid_state : goal.returns-then-is_valid_state
-returns-then-is_valid_state c =
-    check_joined c.args.bytes.now c.if-bytes-eq1984.true c.read_state-state.ensures
-    (sym c.if-is_valid_state.true ∙ c.is_valid_state.ensures) c.is_blank.ensures c.are_rows.ensures c.is_framed.ensures
+pub returns : goal.returns
+returns c =
+    check_joined c.args.bytes.now c.if-bytes-ne1984.false c.read_state-state.ensures
+    (sym c.if-not-is_valid_state.false ∙ c.is_valid_state.ensures) c.is_blank.ensures c.are_rows.ensures c.is_framed.ensures
 
-pub returns-else-is_valid_state : goal.returns-else-is_valid_state
-returns-else-is_valid_state c =
-    check_joined c.args.bytes.now c.if-bytes-eq1984.true c.read_state-state.ensures
-    (sym c.if-is_valid_state.false ∙ c.is_valid_state.ensures) refl refl refl
+pub returns-then-not-is_valid_state : goal.returns-then-not-is_valid_state
+returns-then-not-is_valid_state c =
+    check_joined c.args.bytes.now c.if-bytes-ne1984.false c.read_state-state.ensures
+    (sym c.if-not-is_valid_state.true ∙ c.is_valid_state.ensures) refl refl refl
 
-pub returns-else-bytes-eq1984 : goal.returns-else-bytes-eq1984
-returns-else-bytes-eq1984 c = is_valid_other c.args.bytes.now c.if-bytes-eq1984.false
+pub returns-then-bytes-ne1984 : goal.returns-then-bytes-ne1984
+returns-then-bytes-ne1984 c = is_valid_other c.args.bytes.now c.if-bytes-ne1984.true

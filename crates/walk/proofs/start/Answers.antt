@@ -1,15 +1,12 @@
 -- `start` meets its contract. Assumes nothing.
-use mathlib.Core.Path.{◌≡◌, ap, ◌∙◌}
-use Prim.Native.Nat.{ℕ}
-use lib.ListN.{length, replicate}
-use borrow.Author.Rules.{rules}
+use mathlib.Core.Path.{ap}
+use lib.ListN.{replicate}
+use Rattle.state.specs.declared.State.{State}
+use Rattle.runs.specs.Runs.{empty_screen}
+use Rattle.walk.specs.Stage.{at_header}
 use Rattle.walk.specs.Walk.{place, walk, start_of}
 use Rattle.walk.proofs.start.Goals as goal
 
 pub returns : goal.returns
 unfolding start_of
-returns c =
-    let a = c.args in
-    let n : length a.cells.now ≡ 1920 = search rules in
-    let m : length a.held.now ≡ 960 = search rules in
-    λ i. place (walk 0 0 0 (c.fresh.ensures i)) ((c.blank.ensures ∙ ap (λ (k : ℕ). replicate k 0) n) i) ((c.blank-2.ensures ∙ ap (λ (k : ℕ). replicate k 0) m) i)
+returns c = ap (λ (s : State). place (walk at_header 0 0 s) (replicate 1920 0) empty_screen) c.fresh.ensures

@@ -1,19 +1,14 @@
 -- `is_writable` meets its contract: the rows are tested one behind the other. Assumes nothing.
-use mathlib.Core.Path.{ap, ◌∙◌}
-use mathlib.Core.Bool.{◌&&◌}
+use mathlib.Core.Path.{refl, ◌∙◌}
 use Prim.Native.Nat.{ℕ, ◌*◌}
-use native.Mathlib.Omega.{arith}
 use borrow.Author.Rules.{rules}
-use Rattle.facts.proofs.Every.{every_more}
+use Rattle.std.proofs.lemmas.Iterator.{YieldsList-from_range}
+use Rattle.std.proofs.lemmas.Iterator.Search.{all_from_yields_List}
 use Rattle.tape.specs.Writable.{is_row_writable}
 use Rattle.writable.proofs.LawsOfChecks.{rows-joined}
 use Rattle.writable.proofs.is_writable.Goals as goal
 
-pub loop-row-preserved : goal.loop-row-preserved
-loop-row-preserved c =
-    let memory = c.args.memory.now in
-    let ok = c.loop-row.ok in
-    (search rules, ap (λ t. ok && t) c.is_row_writable-ok.ensures ∙ every_more (λ (r : ℕ). is_row_writable memory (r * 64)) c.loop-row.row c.loop-row.invariant.1)
-
 pub returns : goal.returns
-returns c = rows-joined c.args.memory.now c.loop-row.row (omega arith) c.loop-row.invariant.1
+returns c =
+    let test = λ (r : ℕ). is_row_writable c.args.memory.now (r * 64) in
+    all_from_yields_List test _ _ _ c.all.ensures.ran (YieldsList-from_range 0 15 15 refl refl) (λ x b q k. search rules) ∙ rows-joined c.args.memory.now

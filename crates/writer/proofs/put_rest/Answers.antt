@@ -1,7 +1,7 @@
 -- `put_rest` meets its contract. Assumes nothing.
 use Prim.Native.Nat.{◌+◌}
 use native.Mathlib.Omega.{arith}
-use borrow.Author.Rules.{rules}
+use Rattle.tape.specs.Channel.{number_of_channel}
 use Rattle.tape.specs.Item.{bytes_of}
 use Rattle.tape.specs.Tape.{rest_of}
 use Rattle.tape.proofs.LawsOfSizes.{rest_end}
@@ -10,27 +10,27 @@ use Rattle.writer.proofs.Laws.{items_more}
 use Rattle.writer.proofs.put_rest.Goals as goal
 
 pub loop-k-init : goal.loop-k-init
-loop-k-init c = let a = c.args in rest_start a.out.now a.n (rest_of a.channel a.memory.now a.at a.end a.from)
+loop-k-init c = let a = c.args in rest_start a.out.now a.n (rest_of (number_of_channel a.channel) a.memory.now a.at a.end a.from)
 
 pub put_item-m-requires : goal.put_item-m-requires
 put_item-m-requires c =
     let i = c.item_at-item in
     let a = c.args in
-    let rest = rest_of a.channel a.memory.now a.at a.end in
-    let more = items_more a.memory.now a.at a.end c.loop-k.k a.channel i.result c.loop-k-test.true i.ensures.0 in
-    (search rules, search rules, rest_room a.out.now a.n (rest a.from) (bytes_of a.channel i.result) (rest (c.loop-k.k + i.result.columns)) c.loop-k.invariant more c.requires.4)
+    let rest = rest_of (number_of_channel a.channel) a.memory.now a.at a.end in
+    let more = items_more a.memory.now a.at a.end c.loop-k.k (number_of_channel a.channel) i.result c.loop-k-test.true i.ensures.0 in
+    rest_room a.out.now a.n (rest a.from) (bytes_of (number_of_channel a.channel) i.result) (rest (c.loop-k.k + i.result.columns)) c.loop-k.invariant more c.requires.2
 
 pub loop-k-preserved : goal.loop-k-preserved
 loop-k-preserved c =
     let i = c.item_at-item in
     let a = c.args in
-    let rest = rest_of a.channel a.memory.now a.at a.end in
-    let more = items_more a.memory.now a.at a.end c.loop-k.k a.channel i.result c.loop-k-test.true i.ensures.0 in
-    rest_turn a.out.now a.n (rest a.from) (bytes_of a.channel i.result) (rest (c.loop-k.k + i.result.columns)) c.loop-k.invariant more c.put_item-m.ensures
+    let rest = rest_of (number_of_channel a.channel) a.memory.now a.at a.end in
+    let more = items_more a.memory.now a.at a.end c.loop-k.k (number_of_channel a.channel) i.result c.loop-k-test.true i.ensures.0 in
+    rest_turn a.out.now a.n (rest a.from) (bytes_of (number_of_channel a.channel) i.result) (rest (c.loop-k.k + i.result.columns)) c.loop-k.invariant more c.put_item-m.ensures
 
 pub returns : goal.returns
 returns c =
     let l = c.loop-k in
     let a = c.args in
     let memory = a.memory.now in
-    rest_stop a.out.now a.n (rest_of a.channel memory a.at a.end a.from) l.invariant (rest_end a.channel memory a.at a.end l.k (omega arith))
+    rest_stop a.out.now a.n (rest_of (number_of_channel a.channel) memory a.at a.end a.from) l.invariant (rest_end (number_of_channel a.channel) memory a.at a.end l.k (omega arith))

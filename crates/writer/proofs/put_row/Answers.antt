@@ -3,6 +3,7 @@ use mathlib.Core.Path.{◌∙◌}
 use Prim.Native.Nat.{◌*◌}
 use native.Mathlib.Omega.{arith}
 use borrow.Author.Rules.{rules}
+use Rattle.tape.specs.Channel.{number_of_channel}
 use Rattle.items.proofs.LawsOfLaid.{laid_none, laid_then, room_front, room_rest}
 use Rattle.writer.proofs.Laws.{lead_inside, row_none, row_some}
 use Rattle.writer.proofs.put_row.Goals as goal
@@ -10,7 +11,7 @@ use Rattle.writer.proofs.put_row.Goals as goal
 pub returns-then-end-eq0 : goal.returns-then-end-eq0
 returns-then-end-eq0 c =
     let a = c.args in
-    laid_none a.out.now a.n (row_none a.channel a.memory.now a.row c.end-end.result c.end-end.ensures.0 c.if-end-eq0.true)
+    laid_none a.out.now a.n (row_none (number_of_channel a.channel) a.memory.now a.row c.end-end.result c.end-end.ensures.0 c.if-end-eq0.true)
 
 pub preamble_item-item-requires : goal.preamble_item-item-requires
 preamble_item-item-requires c =
@@ -22,18 +23,18 @@ preamble_item-item-requires c =
 pub put_item-m-requires : goal.put_item-m-requires
 put_item-m-requires c =
     let a = c.args in
-    let parts = row_some a.channel a.memory.now a.row c.end-end.result c.end-end.ensures.0 c.row_pen-pen.result c.lead.result c.preamble_item-item.result c.if-end-eq0.false c.row_pen-pen.ensures c.lead.ensures.0 c.preamble_item-item.ensures in
-    (search rules, search rules, room_front a.out.now a.n _ _ (rw parts at c.requires.4))
+    let parts = row_some (number_of_channel a.channel) a.memory.now a.row c.end-end.result c.end-end.ensures.0 c.row_pen-pen.result c.lead.result c.preamble_item-item.result c.if-end-eq0.false c.row_pen-pen.ensures c.lead.ensures.0 c.preamble_item-item.ensures in
+    room_front a.out.now a.n _ _ (rw parts at c.requires.2)
 
 pub put_rest-requires : goal.put_rest-requires
 put_rest-requires c =
     let a = c.args in
     let pre = c.requires in
-    let parts = row_some a.channel a.memory.now a.row c.end-end.result c.end-end.ensures.0 c.row_pen-pen.result c.lead.result c.preamble_item-item.result c.if-end-eq0.false c.row_pen-pen.ensures c.lead.ensures.0 c.preamble_item-item.ensures in
-    (pre.0, pre.1, omega arith, c.end-end.ensures.1, room_rest a.out.now a.n _ _ c.put_item-m.ensures (rw parts at pre.4))
+    let parts = row_some (number_of_channel a.channel) a.memory.now a.row c.end-end.result c.end-end.ensures.0 c.row_pen-pen.result c.lead.result c.preamble_item-item.result c.if-end-eq0.false c.row_pen-pen.ensures c.lead.ensures.0 c.preamble_item-item.ensures in
+    (omega arith, c.end-end.ensures.1, room_rest a.out.now a.n _ _ c.put_item-m.ensures (rw parts at pre.2))
 
 pub returns : goal.returns
 returns c =
     let a = c.args in
-    let parts = row_some a.channel a.memory.now a.row c.end-end.result c.end-end.ensures.0 c.row_pen-pen.result c.lead.result c.preamble_item-item.result c.if-end-eq0.false c.row_pen-pen.ensures c.lead.ensures.0 c.preamble_item-item.ensures in
+    let parts = row_some (number_of_channel a.channel) a.memory.now a.row c.end-end.result c.end-end.ensures.0 c.row_pen-pen.result c.lead.result c.preamble_item-item.result c.if-end-eq0.false c.row_pen-pen.ensures c.lead.ensures.0 c.preamble_item-item.ensures in
     rw parts (laid_then c.put_item-m.ensures c.put_rest.ensures)

@@ -4,6 +4,7 @@ use mathlib.Core.List.{List, ◌++◌}
 use Prim.Native.Nat.{ℕ, ◌+◌, ◌≤◌}
 use lib.ListN.{length}
 use borrow.Author.Rules.{rules}
+use Rattle.tape.specs.Channel.{number_of_channel}
 use Rattle.tape.specs.Item.{rcl_item, enm_item, eoc_item, bytes_of}
 use Rattle.tape.specs.Tape.{rows_tape_of, tape_of}
 use Rattle.items.proofs.LawsOfLaid.{laid_then, room_front, room_rest}
@@ -38,26 +39,26 @@ module _ (channel : ℕ) (memory : List ℕ) where
 pub put_item-opened-requires : goal.put_item-opened-requires
 put_item-opened-requires c =
     let a = c.args in
-    (search rules, search rules, room_front a.out.now a.n _ _ (two a.channel a.memory.now a.out.now a.n c.requires.3))
+    room_front a.out.now a.n _ _ (two (number_of_channel a.channel) a.memory.now a.out.now a.n c.requires.1)
 
 pub put_item-emptied-requires : goal.put_item-emptied-requires
 put_item-emptied-requires c =
     let a = c.args in
-    (search rules, search rules, room_rest a.out.now a.n _ _ c.put_item-opened.ensures (two a.channel a.memory.now a.out.now a.n c.requires.3))
+    room_rest a.out.now a.n _ _ c.put_item-opened.ensures (two (number_of_channel a.channel) a.memory.now a.out.now a.n c.requires.1)
 
 pub put_rows-loaded-requires : goal.put_rows-loaded-requires
 put_rows-loaded-requires c =
     let a = c.args in
     let emptied = laid_then c.put_item-opened.ensures c.put_item-emptied.ensures in
-    (search rules, search rules, search rules, room_rest a.out.now a.n _ _ emptied (three a.channel a.memory.now a.out.now a.n c.requires.3))
+    (search rules, room_rest a.out.now a.n _ _ emptied (three (number_of_channel a.channel) a.memory.now a.out.now a.n c.requires.1))
 
 pub put_item-requires : goal.put_item-requires
 put_item-requires c =
     let a = c.args in
     let loaded = laid_then (laid_then c.put_item-opened.ensures c.put_item-emptied.ensures) c.put_rows-loaded.ensures in
-    (c.requires.0, c.requires.1, room_rest a.out.now a.n _ _ loaded (all a.channel a.memory.now a.out.now a.n c.requires.3))
+    room_rest a.out.now a.n _ _ loaded (all (number_of_channel a.channel) a.memory.now a.out.now a.n c.requires.1)
 
 pub returns : goal.returns
 returns c =
     let loaded = laid_then (laid_then c.put_item-opened.ensures c.put_item-emptied.ensures) c.put_rows-loaded.ensures in
-    rw (sym (tape_parts c.args.channel c.args.memory.now)) (laid_then loaded c.put_item.ensures)
+    rw (sym (tape_parts (number_of_channel c.args.channel) c.args.memory.now)) (laid_then loaded c.put_item.ensures)

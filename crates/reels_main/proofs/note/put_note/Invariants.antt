@@ -1,9 +1,6 @@
--- `put_note` is safe and stays within the reel. Assumes nothing.
-use Rattle.std.proofs.Common.{◌≡◌, ◌-◌, ◌≤◌, length}
+-- `put_note` takes room and makes none. Assumes nothing.
+use Rattle.std.proofs.Common.{◌≤◌, length}
 use Rattle.reels_main.proofs.note.put_note.Given as goal
 
-abbrev pub invariant-loop-i : goal.invariant-loop-i
-invariant-loop-i l = (l.n ≤ length l.initial.reel) × (length l.reel ≡ length l.initial.reel)
-
-abbrev pub decreases-loop-i : goal.decreases-loop-i
-decreases-loop-i l = l.count - l.i
+abbrev pub invariant-loop : goal.invariant-loop
+invariant-loop l = length l.room.now ≤ length l.initial.room.now

@@ -1,9 +1,6 @@
--- `write` is safe and ends: each part starts behind the one before it. Assumes nothing.
-use Rattle.std.proofs.Common.{◌≡◌, ◌-◌, ◌≤◌, length}
+-- `write` is safe: what is put takes room and makes none. Assumes nothing.
+use Rattle.std.proofs.Common.{◌≤◌, length}
 use Rattle.reels_main.proofs.note.write.Given as goal
 
-abbrev pub invariant-loop-at : goal.invariant-loop-at
-invariant-loop-at l = (l.n ≤ length l.initial.reel) × (length l.reel ≡ length l.initial.reel)
-
-abbrev pub decreases-loop-at : goal.decreases-loop-at
-decreases-loop-at l = l.to - l.at
+abbrev pub invariant-loop-piece : goal.invariant-loop-piece
+invariant-loop-piece l = length l.room ≤ l.size

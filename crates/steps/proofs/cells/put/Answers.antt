@@ -1,33 +1,25 @@
 -- `put` meets its contract. Assumes nothing.
 use mathlib.Core.Path.{sym, ◌∙◌}
 use borrow.Author.Rules.{rules}
-use Rattle.steps.proofs.LawsOfHand.{fit_same}
+use Rattle.steps.specs.Take.{Take, put_of}
+use Rattle.steps.proofs.LawsOfHand.{does_exit}
 use Rattle.steps.proofs.LawsOfCells.{does_put, stops_put, stops_place}
 use Rattle.steps.proofs.cells.put.Goals as goal
 
-pub put_row-wrong-requires : goal.put_row-wrong-requires
-put_row-wrong-requires c =
-    (sym c.is_place.ensures ∙ c.if-is_place.true, search rules)
+pub returns-then-not-is_place-clause-does : goal.returns-then-not-is_place-clause-does
+returns-then-not-is_place-clause-does c =
+    let a = c.args in
+    stops_place a.hand a.screen.now a.row a.column a.pen a.codes.now (sym c.is_place.ensures ∙ c.if-not-is_place.true)
 
-pub returns-then-wrong-eq0 : goal.returns-then-wrong-eq0
-returns-then-wrong-eq0 c =
-    let a = c.args in (
-      fit_same a.hand c.typed.ensures c.requires.0,
-      does_put a.hand a.screen.now a.row a.column a.pen a.codes.now c.requires.1 (sym c.is_place.ensures ∙ c.if-is_place.true) c.copy.ensures c.put_row-wrong.ensures
-          c.if-wrong-eq0.true (search rules) c.copy-then-wrong-eq0.ensures c.typed.ensures,
-    )
+pub returns-in_err-put_row-clause-does : goal.returns-in_err-put_row-clause-does
+returns-in_err-put_row-clause-does c =
+    let a = c.args in
+    let wrong = c.in_err-put_row.ensures in
+    λ out. does_exit (λ (t : Take). put_of t a.row a.column a.pen a.codes.now) a.hand a.screen.now out c.from_residual.result c.from_residual.ensures.1
+    (stops_put a.hand a.screen.now a.row a.column a.pen a.codes.now c.requires.1 (sym c.is_place.ensures ∙ c.if-not-is_place.false) c.copy.ensures wrong.typed wrong.wrong wrong.earliest out)
 
-pub returns-then-is_place : goal.returns-then-is_place
-returns-then-is_place c =
-    let a = c.args in (
-      fit_same a.hand c.stopped.ensures c.requires.0,
-      stops_put a.hand a.screen.now a.row a.column a.pen a.codes.now c.requires.1 (sym c.is_place.ensures ∙ c.if-is_place.true) c.copy.ensures c.put_row-wrong.ensures
-          c.if-wrong-eq0.false c.stopped.ensures,
-    )
-
-pub returns : goal.returns
-returns c =
-    let a = c.args in (
-      fit_same a.hand c.stopped-2.ensures c.requires.0,
-      stops_place a.hand a.screen.now a.row a.column a.pen a.codes.now (sym c.is_place.ensures ∙ c.if-is_place.false) c.stopped-2.ensures,
-    )
+pub returns-clause-does : goal.returns-clause-does
+returns-clause-does c =
+    let a = c.args in
+    let kept = c.in_ok-put_row.ensures in
+    does_put a.hand a.screen.now a.row a.column a.pen a.codes.now c.requires.1 (sym c.is_place.ensures ∙ c.if-not-is_place.false) c.copy.ensures kept.typed kept.wrong (search rules) c.copy-2.ensures

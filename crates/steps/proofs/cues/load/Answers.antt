@@ -1,40 +1,42 @@
 -- `load` meets its contract. Assumes nothing.
-use mathlib.Core.Path.{refl}
 use mathlib.Core.Bool.{false}
 use native.Mathlib.Omega.{arith}
 use borrow.Author.Rules.{rules}
-use Rattle.steps.proofs.LawsOfHand.{fit_same}
+use Rattle.steps.specs.Take.{show_of}
+use Rattle.steps.proofs.LawsOfHand.{does_exit}
 use Rattle.steps.proofs.LawsOfTimes.{fit_more, load_size, load_end, load_room, load_kept, load_wrong}
 use Rattle.steps.proofs.cues.load.Goals as goal
 
-pub plan-plan-requires : goal.plan-plan-requires
-plan-plan-requires c =
+pub plan-requires : goal.plan-requires
+plan-requires c =
     let a = c.args in
-    let z = load_size a.hand a.screen.now a.raw.now a.frame refl c.requires.4 in
+    let z = load_size a.hand a.screen.now a.raw.now a.frame c.requires.4 in
     (search rules, omega arith, omega arith, search rules)
+
+pub returns-in_err-held-clause-does : goal.returns-in_err-held-clause-does
+returns-in_err-held-clause-does c =
+    let a = c.args in
+    does_exit (λ t. show_of t a.frame) a.hand a.screen.now a.out.now c.from_residual.result c.from_residual.ensures.1
+    (load_wrong a.hand a.screen.now a.raw.now a.frame c.requires.4 a.out.now c.requires.5 c.in_err-held.ensures)
 
 pub put_held-requires : goal.put_held-requires
 put_held-requires c =
     let a = c.args in (
-      (load_size a.hand a.screen.now a.raw.now a.frame c.plan-plan.ensures c.requires.4).low,
-      load_room a.hand a.screen.now a.raw.now a.frame c.plan-plan.ensures c.requires.4 a.out.now c.requires.2 c.if-plan-eq0.true,
+      (load_size a.hand a.screen.now a.raw.now a.frame c.requires.4).low,
+      load_room a.hand a.screen.now a.raw.now a.frame c.requires.4 c.in_ok-held.ensures a.out.now c.requires.2,
     )
 
-pub overflow_add-result-then-plan-eq0 : goal.overflow_add-result-then-plan-eq0
-overflow_add-result-then-plan-eq0 c =
+pub overflow_add-result-2 : goal.overflow_add-result-2
+overflow_add-result-2 c =
     let a = c.args in
-    omega (arith, load_end a.hand a.screen.now a.raw.now a.frame c.plan-plan.ensures c.requires.4 c.if-plan-eq0.true)
+    omega (arith, load_end a.hand a.screen.now a.raw.now a.frame c.requires.4 c.in_ok-held.ensures)
 
-pub returns-then-plan-eq0 : goal.returns-then-plan-eq0
-returns-then-plan-eq0 c =
-    let a = c.args in (
-      fit_more a.hand false _ refl (load_end a.hand a.screen.now a.raw.now a.frame c.plan-plan.ensures c.requires.4 c.if-plan-eq0.true) c.requires.0,
-      load_kept a.hand a.screen.now a.raw.now a.frame c.plan-plan.ensures c.requires.4 a.out.now c.requires.5 c.requires.1 c.if-plan-eq0.true c.blank.ensures c.put_held.ensures.bytes,
-    )
+pub returns-clause-fit : goal.returns-clause-fit
+returns-clause-fit c =
+    let a = c.args in
+    fit_more a.hand false _ (load_end a.hand a.screen.now a.raw.now a.frame c.requires.4 c.in_ok-held.ensures) c.requires.0
 
-pub returns : goal.returns
-returns c =
-    let a = c.args in (
-      fit_same a.hand c.stopped.ensures c.requires.0,
-      load_wrong a.hand a.screen.now a.raw.now a.frame c.plan-plan.ensures c.requires.4 a.out.now c.requires.5 c.if-plan-eq0.false c.stopped.ensures,
-    )
+pub returns-clause-does : goal.returns-clause-does
+returns-clause-does c =
+    let a = c.args in
+    load_kept a.hand a.screen.now a.raw.now a.frame c.requires.4 c.in_ok-held.ensures a.out.now c.requires.5 c.requires.1 c.blank.ensures c.put_held.ensures.bytes

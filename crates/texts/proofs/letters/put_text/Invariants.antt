@@ -1,11 +1,10 @@
 -- `put_text` meets its contract. Assumes nothing.
-use mathlib.Core.Path.{◌≡◌}
-use Prim.Native.Nat.{◌-◌, ◌≤◌}
+use Prim.Native.Nat.{◌+◌, ◌≤◌}
 use lib.ListN.{length}
 use Rattle.texts.proofs.letters.put_text.Given as goal
 
-abbrev pub invariant-loop-at : goal.invariant-loop-at
-invariant-loop-at l = (l.at ≤ length l.line) × (l.n ≤ 33) × (length l.step ≡ length l.initial.step)
+abbrev pub invariant-loop-first : goal.invariant-loop-first
+invariant-loop-first l = l.n + length l.text ≤ length l.initial.text
 
-abbrev pub decreases-loop-at : goal.decreases-loop-at
-decreases-loop-at l = length l.line - l.at
+abbrev pub decreases-loop-first : goal.decreases-loop-first
+decreases-loop-first l = length l.text

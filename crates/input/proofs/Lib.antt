@@ -1,0 +1,3 @@
+-- The laws of `input`.
+pub mod LawsOfSums
+pub mod LawsOfWords

@@ -1,0 +1,3 @@
+-- The definitions of `input`, in reading order.
+pub mod Words
+pub mod Sums

@@ -1,8 +1,0 @@
--- `main` meets its contract. Assumes nothing.
-use mathlib.Core.Path.{sym}
-use native.Mathlib.Omega.{arith}
-use lib.Seq.{length-take-le}
-use Rattle.register.proofs.main.Goals as goal
-
-pub slice_bounds-print-end : goal.slice_bounds-print-end
-slice_bounds-print-end c = sym (length-take-le _ _ (omega arith))
