@@ -30,6 +30,9 @@ module _ (out s t : List ℕ) (room : length (s ++ t) ≤ length out) where
     pub room_cut : k ≤ length o
     room_cut = let next = l.next in omega (arith, room_front, laid_size l)
 
+    pub room_sum : {left : List ℕ} {m : ℕ} → Laid (tail_of o k) t left m → k + m ≤ length out
+    room_sum q = let next = l.next in let last = q.next in omega (arith, length-append s t)
+
     pub room_rest : length t ≤ length (tail_of o k)
     room_rest = let next = l.next in omega (arith, length-append s t, laid_size l, room_cut, length-part o k (length o - k) (omega (arith, room_cut)))
 
@@ -77,6 +80,9 @@ module _ (out whole : List ℕ) where
           let next = r.next in
           let size = r.size in
           omega (arith, ap length e ∙ length-append s t, length-part o m (length o - m) (omega (arith, rest_cut)))
+
+      pub rest_sum : {y : List ℕ} {j : ℕ} → Laid (tail_of o m) s y j → m + j ≤ length out
+      rest_sum l = let next = r.next in let last = l.next in omega (arith, ap length e ∙ length-append s t)
 
       pub rest_laid : {y : List ℕ} {j : ℕ} → Laid (tail_of o m) s y j → Rest out 0 whole (put_mid m (length o - m) o y) (m + j) t
       rest_laid l = let last = l.next in rest_turn out 0 whole s t r e (omega arith) (over_tail o m s rest_cut l.bytes)

@@ -115,10 +115,10 @@ fn put_tape(out: &mut [u8], channel: Channel, memory: &[u8]) -> usize
     requires { (length memory.now ≡ 960) × (length (tape_of memory.now (number_of_channel channel)) ≤ length out.old) }
     ensures { Laid out.old (tape_of memory.now (number_of_channel channel)) out.new result }
 {
-    let opened = items::put_item(out, channel, items::RCL);
-    let emptied = opened + items::put_item(&mut out[opened..], channel, items::ENM);
-    let loaded = emptied + put_rows(&mut out[emptied..], channel, memory);
-    loaded + items::put_item(&mut out[loaded..], channel, items::EOC)
+    let mut n = items::put_item(out, channel, items::RCL);
+    n += items::put_item(&mut out[n..], channel, items::ENM);
+    n += put_rows(&mut out[n..], channel, memory);
+    n + items::put_item(&mut out[n..], channel, items::EOC)
 }
 
 // The tape of a screen of 960 bytes on a channel, into a buffer of 4,096, and how many bytes it has; the buffer's bytes past the pairs stay, and on a refusal all of them.

@@ -1,13 +1,14 @@
 -- `put_tape` meets its contract. Assumes nothing.
 use mathlib.Core.Path.{sym}
 use mathlib.Core.List.{List, ◌++◌}
-use Prim.Native.Nat.{ℕ, ◌+◌, ◌≤◌}
+use native.Mathlib.Omega.{arith}
+use Prim.Native.Nat.{ℕ, ◌≤◌}
 use lib.ListN.{length}
 use borrow.Author.Rules.{rules}
 use Rattle.tape.specs.Channel.{number_of_channel}
 use Rattle.tape.specs.Item.{rcl_item, enm_item, eoc_item, bytes_of}
 use Rattle.tape.specs.Tape.{rows_tape_of, tape_of}
-use Rattle.items.proofs.LawsOfLaid.{laid_then, room_front, room_rest}
+use Rattle.items.proofs.LawsOfLaid.{laid_then, room_front, room_cut, room_sum, room_rest}
 use Rattle.writer.proofs.Laws.{tape_parts}
 use Rattle.writer.proofs.put_tape.Goals as goal
 
@@ -26,39 +27,96 @@ module _ (channel : ℕ) (memory : List ℕ) where
   eoc_bytes = bytes_of channel eoc_item
 
   -- there is room for all, for the three before EOC, and for the two before the rows
-  module _ (out : List ℕ) (n : ℕ) (room : n + length (tape_of memory channel) ≤ length out) where
-    all : n + length (((rcl_bytes ++ enm_bytes) ++ rows_bytes) ++ eoc_bytes) ≤ length out
+  module _ (out : List ℕ) (room : length (tape_of memory channel) ≤ length out) where
+    all : length (((rcl_bytes ++ enm_bytes) ++ rows_bytes) ++ eoc_bytes) ≤ length out
     all = rw (tape_parts channel memory) room
 
-    three : n + length ((rcl_bytes ++ enm_bytes) ++ rows_bytes) ≤ length out
-    three = room_front out n ((rcl_bytes ++ enm_bytes) ++ rows_bytes) eoc_bytes all
+    three : length ((rcl_bytes ++ enm_bytes) ++ rows_bytes) ≤ length out
+    three = room_front out ((rcl_bytes ++ enm_bytes) ++ rows_bytes) eoc_bytes all
 
-    two : n + length (rcl_bytes ++ enm_bytes) ≤ length out
-    two = room_front out n (rcl_bytes ++ enm_bytes) rows_bytes three
+    two : length (rcl_bytes ++ enm_bytes) ≤ length out
+    two = room_front out (rcl_bytes ++ enm_bytes) rows_bytes three
 
-pub put_item-opened-requires : goal.put_item-opened-requires
-put_item-opened-requires c =
+pub put_item-n-requires : goal.put_item-n-requires
+put_item-n-requires c =
     let a = c.args in
-    room_front a.out.now a.n _ _ (two (number_of_channel a.channel) a.memory.now a.out.now a.n c.requires.1)
+    room_front a.out.now _ _ (two (number_of_channel a.channel) a.memory.now a.out.now c.requires.1)
 
-pub put_item-emptied-requires : goal.put_item-emptied-requires
-put_item-emptied-requires c =
+pub slice_bounds-put_item-count : goal.slice_bounds-put_item-count
+slice_bounds-put_item-count c =
     let a = c.args in
-    room_rest a.out.now a.n _ _ c.put_item-opened.ensures (two (number_of_channel a.channel) a.memory.now a.out.now a.n c.requires.1)
+    room_cut a.out.now _ _ (two (number_of_channel a.channel) a.memory.now a.out.now c.requires.1) c.put_item-n.ensures
 
-pub put_rows-loaded-requires : goal.put_rows-loaded-requires
-put_rows-loaded-requires c =
+pub slice_bounds-put_item-start : goal.slice_bounds-put_item-start
+slice_bounds-put_item-start c =
     let a = c.args in
-    let emptied = laid_then c.put_item-opened.ensures c.put_item-emptied.ensures in
-    (search rules, room_rest a.out.now a.n _ _ emptied (three (number_of_channel a.channel) a.memory.now a.out.now a.n c.requires.1))
+    room_cut a.out.now _ _ (two (number_of_channel a.channel) a.memory.now a.out.now c.requires.1) c.put_item-n.ensures
+
+pub put_item-n-requires-2 : goal.put_item-n-requires-2
+put_item-n-requires-2 c =
+    let a = c.args in
+    room_rest a.out.now _ _ (two (number_of_channel a.channel) a.memory.now a.out.now c.requires.1) c.put_item-n.ensures
+
+pub overflow_add-n : goal.overflow_add-n
+overflow_add-n c =
+    let a = c.args in
+    omega (arith, room_sum a.out.now _ _ (two (number_of_channel a.channel) a.memory.now a.out.now c.requires.1) c.put_item-n.ensures c.put_item-n-2.ensures)
+
+pub slice_bounds-put_rows-count : goal.slice_bounds-put_rows-count
+slice_bounds-put_rows-count c =
+    let a = c.args in
+    let emptied = laid_then a.out.now _ _ (two (number_of_channel a.channel) a.memory.now a.out.now c.requires.1) c.put_item-n.ensures c.put_item-n-2.ensures in
+    room_cut a.out.now _ _ (three (number_of_channel a.channel) a.memory.now a.out.now c.requires.1) emptied
+
+pub slice_bounds-put_rows-start : goal.slice_bounds-put_rows-start
+slice_bounds-put_rows-start c =
+    let a = c.args in
+    let emptied = laid_then a.out.now _ _ (two (number_of_channel a.channel) a.memory.now a.out.now c.requires.1) c.put_item-n.ensures c.put_item-n-2.ensures in
+    room_cut a.out.now _ _ (three (number_of_channel a.channel) a.memory.now a.out.now c.requires.1) emptied
+
+pub put_rows-n-requires : goal.put_rows-n-requires
+put_rows-n-requires c =
+    let a = c.args in
+    let emptied = laid_then a.out.now _ _ (two (number_of_channel a.channel) a.memory.now a.out.now c.requires.1) c.put_item-n.ensures c.put_item-n-2.ensures in
+    (search rules, room_rest a.out.now _ _ (three (number_of_channel a.channel) a.memory.now a.out.now c.requires.1) emptied)
+
+pub overflow_add-n-2 : goal.overflow_add-n-2
+overflow_add-n-2 c =
+    let a = c.args in
+    let emptied = laid_then a.out.now _ _ (two (number_of_channel a.channel) a.memory.now a.out.now c.requires.1) c.put_item-n.ensures c.put_item-n-2.ensures in
+    omega (arith, room_sum a.out.now _ _ (three (number_of_channel a.channel) a.memory.now a.out.now c.requires.1) emptied c.put_rows-n.ensures)
+
+pub slice_bounds-put_item-count-2 : goal.slice_bounds-put_item-count-2
+slice_bounds-put_item-count-2 c =
+    let a = c.args in
+    let emptied = laid_then a.out.now _ _ (two (number_of_channel a.channel) a.memory.now a.out.now c.requires.1) c.put_item-n.ensures c.put_item-n-2.ensures in
+    let loaded = laid_then a.out.now _ _ (three (number_of_channel a.channel) a.memory.now a.out.now c.requires.1) emptied c.put_rows-n.ensures in
+    room_cut a.out.now _ _ (all (number_of_channel a.channel) a.memory.now a.out.now c.requires.1) loaded
+
+pub slice_bounds-put_item-start-2 : goal.slice_bounds-put_item-start-2
+slice_bounds-put_item-start-2 c =
+    let a = c.args in
+    let emptied = laid_then a.out.now _ _ (two (number_of_channel a.channel) a.memory.now a.out.now c.requires.1) c.put_item-n.ensures c.put_item-n-2.ensures in
+    let loaded = laid_then a.out.now _ _ (three (number_of_channel a.channel) a.memory.now a.out.now c.requires.1) emptied c.put_rows-n.ensures in
+    room_cut a.out.now _ _ (all (number_of_channel a.channel) a.memory.now a.out.now c.requires.1) loaded
 
 pub put_item-requires : goal.put_item-requires
 put_item-requires c =
     let a = c.args in
-    let loaded = laid_then (laid_then c.put_item-opened.ensures c.put_item-emptied.ensures) c.put_rows-loaded.ensures in
-    room_rest a.out.now a.n _ _ loaded (all (number_of_channel a.channel) a.memory.now a.out.now a.n c.requires.1)
+    let emptied = laid_then a.out.now _ _ (two (number_of_channel a.channel) a.memory.now a.out.now c.requires.1) c.put_item-n.ensures c.put_item-n-2.ensures in
+    let loaded = laid_then a.out.now _ _ (three (number_of_channel a.channel) a.memory.now a.out.now c.requires.1) emptied c.put_rows-n.ensures in
+    room_rest a.out.now _ _ (all (number_of_channel a.channel) a.memory.now a.out.now c.requires.1) loaded
+
+pub overflow_add-result : goal.overflow_add-result
+overflow_add-result c =
+    let a = c.args in
+    let emptied = laid_then a.out.now _ _ (two (number_of_channel a.channel) a.memory.now a.out.now c.requires.1) c.put_item-n.ensures c.put_item-n-2.ensures in
+    let loaded = laid_then a.out.now _ _ (three (number_of_channel a.channel) a.memory.now a.out.now c.requires.1) emptied c.put_rows-n.ensures in
+    omega (arith, room_sum a.out.now _ _ (all (number_of_channel a.channel) a.memory.now a.out.now c.requires.1) loaded c.put_item.ensures)
 
 pub returns : goal.returns
 returns c =
-    let loaded = laid_then (laid_then c.put_item-opened.ensures c.put_item-emptied.ensures) c.put_rows-loaded.ensures in
-    rw (sym (tape_parts (number_of_channel c.args.channel) c.args.memory.now)) (laid_then loaded c.put_item.ensures)
+    let a = c.args in
+    let emptied = laid_then a.out.now _ _ (two (number_of_channel a.channel) a.memory.now a.out.now c.requires.1) c.put_item-n.ensures c.put_item-n-2.ensures in
+    let loaded = laid_then a.out.now _ _ (three (number_of_channel a.channel) a.memory.now a.out.now c.requires.1) emptied c.put_rows-n.ensures in
+    rw (sym (tape_parts (number_of_channel a.channel) a.memory.now)) (laid_then a.out.now _ _ (all (number_of_channel a.channel) a.memory.now a.out.now c.requires.1) loaded c.put_item.ensures)
