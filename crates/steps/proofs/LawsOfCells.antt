@@ -14,7 +14,7 @@ use Rattle.facts.specs.Over.{over}
 use Rattle.facts.proofs.Choice.{and_left, and_right}
 use Rattle.facts.proofs.Over.{over_two, over_all}
 use Rattle.tape.specs.Channel.{number_of_channel}
-use Rattle.items.proofs.LawsOfLaid.{Rest, rest_start, rest_turn, rest_stop}
+use Rattle.items.proofs.LawsOfLaid.{Rest, rest_start, rest_turn, rest_over}
 use Rattle.steps.specs.declared.Hand.{Hand}
 use Rattle.steps.specs.declared.Wrong.{Wrong}
 use Rattle.steps.specs.declared.Wrong.TheVariants.{WrongLength, NoSuch, TooManyFrames, Invalid, NotWritable, TooEarly, Unshown}
@@ -36,11 +36,11 @@ module _ (screen : List ℕ) (at pen : ℕ) (codes : List ℕ) where
 
   pub typed_more : {now : List ℕ} (i : ℕ) → i < length codes → Typed now i → Typed (set (set now (at + i * 2) (get_or codes i 0)) (at + i * 2 + 1) pen) (i + 1)
   typed_more {now} i h t =
-      rest_turn screen at (cells_of pen codes) (get_or codes i 0 ∷ pen ∷ []) (cells_of pen (drop (i + 1) codes)) t (cells_more i h)
-      (record { bytes = over_two now (at + i * 2) (get_or codes i 0) pen; next = omega arith })
+      rest_turn screen at (cells_of pen codes) (get_or codes i 0 ∷ pen ∷ []) (cells_of pen (drop (i + 1) codes)) t (cells_more i h) (omega arith)
+      (over_two now (at + i * 2) (get_or codes i 0) pen)
 
   pub typed_all : {now : List ℕ} {i : ℕ} → i ≡ length codes → Typed now i → now ≡ over screen at (cells_of pen codes)
-  typed_all {i = i} e t = (rest_stop screen at (cells_of pen codes) t (ap (cells_of pen) (ap (λ (k : ℕ). drop k codes) e ∙ drop-length codes))).bytes
+  typed_all {i = i} e t = rest_over screen at (cells_of pen codes) t (ap (cells_of pen) (ap (λ (k : ℕ). drop k codes) e ∙ drop-length codes))
 
 -- A place, and what a step of characters comes to.
 

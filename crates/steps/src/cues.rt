@@ -41,7 +41,7 @@ fn load(
     let frames = hand.frames;
     let pairs = raw.len() / 2;
     let held = plan(frames, pairs, frame)?;
-    frames::put_held(out, frames * 5, raw, held);
+    frames::put_held(&mut out[frames * 5..], raw, held);
     facts::blank(screen);
     Ok(Hand {
         drawn: false,
@@ -72,8 +72,8 @@ pub fn clear(hand: Hand, out: &mut [u8], frame: usize) -> Result<Hand, Wrong>
     let frames = hand.frames;
     let held = plan(frames, 2, frame)?;
     let mut raw = [0u8; 4];
-    items::put_item(&mut raw, 0, hand.channel, items::EDM);
-    frames::put_held(out, frames * 5, &raw, held);
+    items::put_item(&mut raw, hand.channel, items::EDM);
+    frames::put_held(&mut out[frames * 5..], &raw, held);
     Ok(hand.further(2 + held))
 }
 
@@ -87,6 +87,6 @@ pub fn wait(hand: Hand, out: &mut [u8], count: usize) -> Result<Hand, Wrong>
     if 16000 < frames + count {
         return Err(Wrong::TooManyFrames);
     }
-    frames::put_nulls(out, frames * 5, count);
+    frames::put_nulls(&mut out[frames * 5..], count);
     Ok(hand.further(count))
 }
