@@ -20,6 +20,9 @@ laid_size {out} {text = text} l = ap length l.bytes ∙ length-over out 0 text
 abbrev pub tail_of : List ℕ → ℕ → List ℕ
 tail_of o n = part o n (length o - n)
 
+pub tail_room : (o : List ℕ) (n k : ℕ) → n + k ≤ length o → k ≤ length (tail_of o n)
+tail_room o n k h = omega (arith, length-part o n (length o - n) (omega arith))
+
 -- Where there is room for the whole, there is room for its front, and for the rest behind it.
 
 module _ (out s t : List ℕ) (room : length (s ++ t) ≤ length out) where
@@ -34,7 +37,7 @@ module _ (out s t : List ℕ) (room : length (s ++ t) ≤ length out) where
     room_sum q = let next = l.next in let last = q.next in omega (arith, length-append s t)
 
     pub room_rest : length t ≤ length (tail_of o k)
-    room_rest = let next = l.next in omega (arith, length-append s t, laid_size l, room_cut, length-part o k (length o - k) (omega (arith, room_cut)))
+    room_rest = let next = l.next in tail_room o k (length t) (omega (arith, length-append s t, laid_size l))
 
     pub laid_then : {left : List ℕ} {m : ℕ} → Laid (tail_of o k) t left m → Laid out (s ++ t) (put_mid k (length o - k) o left) (k + m)
     laid_then q =
@@ -79,7 +82,7 @@ module _ (out whole : List ℕ) where
       rest_room =
           let next = r.next in
           let size = r.size in
-          omega (arith, ap length e ∙ length-append s t, length-part o m (length o - m) (omega (arith, rest_cut)))
+          tail_room o m (length s) (omega (arith, ap length e ∙ length-append s t))
 
       pub rest_sum : {y : List ℕ} {j : ℕ} → Laid (tail_of o m) s y j → m + j ≤ length out
       rest_sum l = let next = r.next in let last = l.next in omega (arith, ap length e ∙ length-append s t)

@@ -2,6 +2,8 @@
 use mathlib.Core.Bool.{false}
 use native.Mathlib.Omega.{arith}
 use borrow.Author.Rules.{rules}
+use Prim.Native.Nat.{◌*◌}
+use Rattle.facts.proofs.Tail.{over_tail}
 use Rattle.steps.specs.Take.{show_of}
 use Rattle.steps.proofs.LawsOfHand.{does_exit}
 use Rattle.steps.proofs.LawsOfTimes.{fit_more, load_size, load_end, load_room, load_kept, load_wrong}
@@ -39,4 +41,4 @@ returns-clause-fit c =
 pub returns-clause-does : goal.returns-clause-does
 returns-clause-does c =
     let a = c.args in
-    load_kept a.hand a.screen.now a.raw.now a.frame c.requires.4 c.in_ok-held.ensures a.out.now c.requires.5 c.requires.1 c.blank.ensures c.put_held.ensures.bytes
+    load_kept a.hand a.screen.now a.raw.now a.frame c.requires.4 c.in_ok-held.ensures a.out.now c.requires.5 c.requires.1 c.blank.ensures (over_tail a.out.now (a.hand.frames * 5) _ (omega arith) c.put_held.ensures.bytes)
