@@ -11,7 +11,7 @@ use Rattle.facts.proofs.Tail.{over_tail, tail_then}
 use Rattle.items.specs.Laid.{Laid}
 
 pub laid_none : (out : List ℕ) {text : List ℕ} → text ≡ [] → Laid out text out 0
-laid_none out e = record { bytes = sym (over_nil out 0) ∙ ap (over out 0) (sym e); next = omega (arith, ap length e) }
+laid_none out e = record { bytes = sym (over_nil out 0) ∙ ap (over out 0) (sym e); next = omega (arith, ap length e); room = omega arith }
 
 pub laid_size : {out text left : List ℕ} {r : ℕ} → Laid out text left r → length left ≡ length out
 laid_size {out} {text = text} l = ap length l.bytes ∙ length-over out 0 text
@@ -30,20 +30,15 @@ module _ (out s t : List ℕ) (room : length (s ++ t) ≤ length out) where
   room_front = omega (arith, length-append s t)
 
   module _ {o : List ℕ} {k : ℕ} (l : Laid out s o k) where
-    pub room_cut : k ≤ length o
-    room_cut = let next = l.next in omega (arith, room_front, laid_size l)
-
-    pub room_sum : {left : List ℕ} {m : ℕ} → Laid (tail_of o k) t left m → k + m ≤ length out
-    room_sum q = let next = l.next in let last = q.next in omega (arith, length-append s t)
-
     pub room_rest : length t ≤ length (tail_of o k)
     room_rest = let next = l.next in tail_room o k (length t) (omega (arith, length-append s t, laid_size l))
 
     pub laid_then : {left : List ℕ} {m : ℕ} → Laid (tail_of o k) t left m → Laid out (s ++ t) (put_mid k (length o - k) o left) (k + m)
-    laid_then q =
+    laid_then {left} {m} q =
         let next = l.next in
         let last = q.next in
-        record { bytes = tail_then out s t k next (omega (arith, room_front)) l.bytes q.bytes; next = omega (arith, length-append s t) }
+        let bytes : put_mid k (length o - k) o left ≡ over out 0 (s ++ t) = tail_then out s t k next (omega (arith, room_front)) l.bytes q.bytes in
+        record { bytes = bytes; next = omega (arith, length-append s t); room = omega (arith, length-append s t, ap length bytes, length-over out 0 (s ++ t)) }
 
 -- In a loop: what is still to be laid from m on makes the whole from n on.
 pub record Rest (out : List ℕ) (n : ℕ) (whole now : List ℕ) (m : ℕ) (left : List ℕ) : Type 0 where
@@ -69,23 +64,23 @@ module _ (out : List ℕ) (n : ℕ) (whole : List ℕ) where
       }
 
 -- the same where each text is laid at the front of what is behind the others
-module _ (out whole : List ℕ) where
-  pub rest_stop : {o left : List ℕ} {m : ℕ} → Rest out 0 whole o m left → left ≡ [] → Laid out whole o m
-  rest_stop r e = let next = r.next in record { bytes = rest_over out 0 whole r e; next = omega (arith, ap length e) }
+module _ (out whole : List ℕ) {o left : List ℕ} {m : ℕ} (room : length whole ≤ length out) (r : Rest out 0 whole o m left) where
+  pub rest_stop : left ≡ [] → Laid out whole o m
+  rest_stop e =
+      let next = r.next in
+      let size = r.size in
+      record { bytes = rest_over out 0 whole r e; next = omega (arith, ap length e); room = omega arith }
 
-  module _ {o left : List ℕ} {m : ℕ} (room : length whole ≤ length out) (r : Rest out 0 whole o m left) where
-    pub rest_cut : m ≤ length o
-    rest_cut = let next = r.next in let size = r.size in omega arith
+  module _ (s t : List ℕ) (e : left ≡ s ++ t) where
+    pub rest_room : length s ≤ length (tail_of o m)
+    rest_room =
+        let next = r.next in
+        let size = r.size in
+        tail_room o m (length s) (omega (arith, ap length e ∙ length-append s t))
 
-    module _ (s t : List ℕ) (e : left ≡ s ++ t) where
-      pub rest_room : length s ≤ length (tail_of o m)
-      rest_room =
-          let next = r.next in
-          let size = r.size in
-          tail_room o m (length s) (omega (arith, ap length e ∙ length-append s t))
-
-      pub rest_sum : {y : List ℕ} {j : ℕ} → Laid (tail_of o m) s y j → m + j ≤ length out
-      rest_sum l = let next = r.next in let last = l.next in omega (arith, ap length e ∙ length-append s t)
-
-      pub rest_laid : {y : List ℕ} {j : ℕ} → Laid (tail_of o m) s y j → Rest out 0 whole (put_mid m (length o - m) o y) (m + j) t
-      rest_laid l = let last = l.next in rest_turn out 0 whole s t r e (omega arith) (over_tail o m s rest_cut l.bytes)
+    pub rest_laid : {y : List ℕ} {j : ℕ} → Laid (tail_of o m) s y j → Rest out 0 whole (put_mid m (length o - m) o y) (m + j) t
+    rest_laid l =
+        let last = l.next in
+        let next = r.next in
+        let size = r.size in
+        rest_turn out 0 whole s t r e (omega arith) (over_tail o m s (omega arith) l.bytes)

@@ -2,7 +2,7 @@
 use mathlib.Core.Path.{sym}
 use native.Mathlib.Omega.{arith}
 use lib.Seq.{length-take-le}
-use Rattle.items.proofs.LawsOfLaid.{laid_then, room_front, room_cut, room_sum, room_rest}
+use Rattle.items.proofs.LawsOfLaid.{laid_then, room_front, room_rest}
 use Rattle.frames.specs.Held.{last_at}
 use Rattle.frames.proofs.Laws.{last_all, held_two, held_all, held_laid}
 use Rattle.frames.proofs.put_held.Goals as goal
@@ -15,49 +15,16 @@ put_pairs-n-requires c =
     let a = c.args in
     room_front a.out.now _ _ (held_two a.raw.now a.held a.out.now c.requires.1)
 
-pub slice_bounds-put_nulls-count : goal.slice_bounds-put_nulls-count
-slice_bounds-put_nulls-count c =
-    let a = c.args in
-    room_cut a.out.now _ _ (held_two a.raw.now a.held a.out.now c.requires.1) c.put_pairs-n.ensures
-
-pub slice_bounds-put_nulls-start : goal.slice_bounds-put_nulls-start
-slice_bounds-put_nulls-start c =
-    let a = c.args in
-    room_cut a.out.now _ _ (held_two a.raw.now a.held a.out.now c.requires.1) c.put_pairs-n.ensures
-
 pub put_nulls-n-requires : goal.put_nulls-n-requires
 put_nulls-n-requires c =
     let a = c.args in
     room_rest a.out.now _ _ (held_two a.raw.now a.held a.out.now c.requires.1) c.put_pairs-n.ensures
-
-pub overflow_add-n : goal.overflow_add-n
-overflow_add-n c =
-    let a = c.args in
-    omega (arith, room_sum a.out.now _ _ (held_two a.raw.now a.held a.out.now c.requires.1) c.put_pairs-n.ensures c.put_nulls-n.ensures)
-
-pub slice_bounds-put_pairs-count : goal.slice_bounds-put_pairs-count
-slice_bounds-put_pairs-count c =
-    let a = c.args in
-    let both = laid_then a.out.now _ _ (held_two a.raw.now a.held a.out.now c.requires.1) c.put_pairs-n.ensures c.put_nulls-n.ensures in
-    room_cut a.out.now _ _ (held_all a.raw.now a.held a.out.now c.requires.1) both
-
-pub slice_bounds-put_pairs-start : goal.slice_bounds-put_pairs-start
-slice_bounds-put_pairs-start c =
-    let a = c.args in
-    let both = laid_then a.out.now _ _ (held_two a.raw.now a.held a.out.now c.requires.1) c.put_pairs-n.ensures c.put_nulls-n.ensures in
-    room_cut a.out.now _ _ (held_all a.raw.now a.held a.out.now c.requires.1) both
 
 pub put_pairs-requires : goal.put_pairs-requires
 put_pairs-requires c =
     let a = c.args in
     let both = laid_then a.out.now _ _ (held_two a.raw.now a.held a.out.now c.requires.1) c.put_pairs-n.ensures c.put_nulls-n.ensures in
     rw (last_all a.raw.now (last_at a.raw.now)) (room_rest a.out.now _ _ (held_all a.raw.now a.held a.out.now c.requires.1) both)
-
-pub overflow_add-result : goal.overflow_add-result
-overflow_add-result c =
-    let a = c.args in
-    let both = laid_then a.out.now _ _ (held_two a.raw.now a.held a.out.now c.requires.1) c.put_pairs-n.ensures c.put_nulls-n.ensures in
-    omega (arith, room_sum a.out.now _ _ (held_all a.raw.now a.held a.out.now c.requires.1) both (rw (last_all a.raw.now (last_at a.raw.now)) at c.put_pairs.ensures))
 
 pub returns : goal.returns
 returns c =

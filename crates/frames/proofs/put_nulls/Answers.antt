@@ -5,7 +5,7 @@ use Prim.Native.Nat.{ℕ, ◌+◌, ◌-◌}
 use Rattle.wire.specs.Line.{line_of}
 use Rattle.wire.specs.Reel.{reel_of_raw}
 use Rattle.tape.specs.Programme.{nulls_of}
-use Rattle.items.proofs.LawsOfLaid.{rest_start, rest_stop, rest_room, rest_sum, rest_laid}
+use Rattle.items.proofs.LawsOfLaid.{rest_start, rest_stop, rest_room, rest_laid}
 use Rattle.frames.proofs.Laws.{nulls_more}
 use Rattle.frames.proofs.put_nulls.Goals as goal
 
@@ -18,12 +18,6 @@ put_line-n-requires c =
     let i = c.loop.counter in
     rest_room a.out.now (reel_of_raw (nulls_of a.count)) c.requires c.loop.invariant (line_of 0x80 0x80) (reel_of_raw (nulls_of (a.count - (i + 1)))) (nulls_more a.count i (omega arith))
 
-pub overflow_add-n : goal.overflow_add-n
-overflow_add-n c =
-    let a = c.args in
-    let i = c.loop.counter in
-    omega (arith, rest_sum a.out.now (reel_of_raw (nulls_of a.count)) c.requires c.loop.invariant (line_of 0x80 0x80) (reel_of_raw (nulls_of (a.count - (i + 1)))) (nulls_more a.count i (omega arith)) c.put_line-n.ensures)
-
 pub loop-preserved : goal.loop-preserved
 loop-preserved c =
     let a = c.args in
@@ -34,4 +28,4 @@ pub returns : goal.returns
 returns c =
     let a = c.args in
     let none : a.count - c.loop.counter ≡ 0 = omega arith in
-    rest_stop a.out.now (reel_of_raw (nulls_of a.count)) c.loop.invariant (ap (λ (k : ℕ). reel_of_raw (nulls_of k)) none)
+    rest_stop a.out.now (reel_of_raw (nulls_of a.count)) c.requires c.loop.invariant (ap (λ (k : ℕ). reel_of_raw (nulls_of k)) none)

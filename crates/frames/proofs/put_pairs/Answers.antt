@@ -25,4 +25,4 @@ pub returns : goal.returns
 returns c =
     let a = c.args in
     let l = c.loop-pair.invariant in
-    rest_stop a.out.now (reel_of_raw a.raw.now) l.1 (reel_end (chunks_exact_rest c.loop-pair.pair-iterator) (omega (arith, c.in-None.ensures.steps)))
+    rest_stop a.out.now (reel_of_raw a.raw.now) c.requires l.1 (reel_end (chunks_exact_rest c.loop-pair.pair-iterator) (omega (arith, c.in-None.ensures.steps)))

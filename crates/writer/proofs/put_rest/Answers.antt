@@ -5,7 +5,7 @@ use Rattle.tape.specs.Channel.{number_of_channel}
 use Rattle.tape.specs.Item.{bytes_of}
 use Rattle.tape.specs.Tape.{rest_of}
 use Rattle.tape.proofs.LawsOfSizes.{rest_end}
-use Rattle.items.proofs.LawsOfLaid.{rest_start, rest_room, rest_sum, rest_laid, rest_stop}
+use Rattle.items.proofs.LawsOfLaid.{rest_start, rest_room, rest_laid, rest_stop}
 use Rattle.writer.proofs.Laws.{items_more}
 use Rattle.writer.proofs.put_rest.Goals as goal
 
@@ -20,14 +20,6 @@ put_item-n-requires c =
     let more = items_more a.memory.now a.at a.end c.loop-k.k (number_of_channel a.channel) i.result c.loop-k-test.true i.ensures.0 in
     rest_room a.out.now (rest a.from) c.requires.2 c.loop-k.invariant (bytes_of (number_of_channel a.channel) i.result) (rest (c.loop-k.k + i.result.columns)) more
 
-pub overflow_add-n : goal.overflow_add-n
-overflow_add-n c =
-    let i = c.item_at-item in
-    let a = c.args in
-    let rest = rest_of (number_of_channel a.channel) a.memory.now a.at a.end in
-    let more = items_more a.memory.now a.at a.end c.loop-k.k (number_of_channel a.channel) i.result c.loop-k-test.true i.ensures.0 in
-    omega (arith, rest_sum a.out.now (rest a.from) c.requires.2 c.loop-k.invariant (bytes_of (number_of_channel a.channel) i.result) (rest (c.loop-k.k + i.result.columns)) more c.put_item-n.ensures)
-
 pub loop-k-preserved : goal.loop-k-preserved
 loop-k-preserved c =
     let i = c.item_at-item in
@@ -41,4 +33,4 @@ returns c =
     let l = c.loop-k in
     let a = c.args in
     let memory = a.memory.now in
-    rest_stop a.out.now (rest_of (number_of_channel a.channel) memory a.at a.end a.from) l.invariant (rest_end (number_of_channel a.channel) memory a.at a.end l.k (omega arith))
+    rest_stop a.out.now (rest_of (number_of_channel a.channel) memory a.at a.end a.from) c.requires.2 l.invariant (rest_end (number_of_channel a.channel) memory a.at a.end l.k (omega arith))

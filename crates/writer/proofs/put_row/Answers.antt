@@ -4,7 +4,7 @@ use Prim.Native.Nat.{◌*◌}
 use native.Mathlib.Omega.{arith}
 use borrow.Author.Rules.{rules}
 use Rattle.tape.specs.Channel.{number_of_channel}
-use Rattle.items.proofs.LawsOfLaid.{laid_none, laid_then, room_front, room_cut, room_sum, room_rest}
+use Rattle.items.proofs.LawsOfLaid.{laid_none, laid_then, room_front, room_rest}
 use Rattle.writer.proofs.Laws.{lead_inside, row_none, row_some}
 use Rattle.writer.proofs.put_row.Goals as goal
 
@@ -26,30 +26,12 @@ put_item-n-requires c =
     let parts = row_some (number_of_channel a.channel) a.memory.now a.row c.end-end.result c.end-end.ensures.0 c.row_pen-pen.result c.lead.result c.preamble_item-item.result c.if-end-eq0.false c.row_pen-pen.ensures c.lead.ensures.0 c.preamble_item-item.ensures in
     room_front a.out.now _ _ (rw parts at c.requires.2)
 
-pub slice_bounds-put_rest-count : goal.slice_bounds-put_rest-count
-slice_bounds-put_rest-count c =
-    let a = c.args in
-    let parts = row_some (number_of_channel a.channel) a.memory.now a.row c.end-end.result c.end-end.ensures.0 c.row_pen-pen.result c.lead.result c.preamble_item-item.result c.if-end-eq0.false c.row_pen-pen.ensures c.lead.ensures.0 c.preamble_item-item.ensures in
-    room_cut a.out.now _ _ (rw parts at c.requires.2) c.put_item-n.ensures
-
-pub slice_bounds-put_rest-start : goal.slice_bounds-put_rest-start
-slice_bounds-put_rest-start c =
-    let a = c.args in
-    let parts = row_some (number_of_channel a.channel) a.memory.now a.row c.end-end.result c.end-end.ensures.0 c.row_pen-pen.result c.lead.result c.preamble_item-item.result c.if-end-eq0.false c.row_pen-pen.ensures c.lead.ensures.0 c.preamble_item-item.ensures in
-    room_cut a.out.now _ _ (rw parts at c.requires.2) c.put_item-n.ensures
-
 pub put_rest-requires : goal.put_rest-requires
 put_rest-requires c =
     let a = c.args in
     let pre = c.requires in
     let parts = row_some (number_of_channel a.channel) a.memory.now a.row c.end-end.result c.end-end.ensures.0 c.row_pen-pen.result c.lead.result c.preamble_item-item.result c.if-end-eq0.false c.row_pen-pen.ensures c.lead.ensures.0 c.preamble_item-item.ensures in
     (omega arith, c.end-end.ensures.1, room_rest a.out.now _ _ (rw parts at pre.2) c.put_item-n.ensures)
-
-pub overflow_add-result : goal.overflow_add-result
-overflow_add-result c =
-    let a = c.args in
-    let parts = row_some (number_of_channel a.channel) a.memory.now a.row c.end-end.result c.end-end.ensures.0 c.row_pen-pen.result c.lead.result c.preamble_item-item.result c.if-end-eq0.false c.row_pen-pen.ensures c.lead.ensures.0 c.preamble_item-item.ensures in
-    omega (arith, room_sum a.out.now _ _ (rw parts at c.requires.2) c.put_item-n.ensures c.put_rest.ensures)
 
 pub returns : goal.returns
 returns c =

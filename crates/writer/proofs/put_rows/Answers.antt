@@ -5,36 +5,18 @@ use lib.ListN.{length}
 use borrow.Author.Rules.{rules}
 use Rattle.tape.specs.Channel.{number_of_channel}
 use Rattle.tape.specs.Tape.{row_tape_of, rows_tape_of}
-use Rattle.items.proofs.LawsOfLaid.{laid_none, laid_size, room_cut, room_sum, room_rest}
+use Rattle.items.proofs.LawsOfLaid.{laid_none, laid_size, room_rest}
 use Rattle.writer.proofs.Laws.{rows_none, rows_more, rows-room}
 use Rattle.writer.proofs.put_rows.Goals as goal
 
 pub loop-row-init : goal.loop-row-init
 loop-row-init c = let a = c.args in laid_none a.out.now (rows_none (number_of_channel a.channel) a.memory.now)
 
-pub slice_bounds-put_row-count : goal.slice_bounds-put_row-count
-slice_bounds-put_row-count c =
-    let a = c.args in
-    let l = c.loop-row in
-    room_cut a.out.now _ _ (rows-room (number_of_channel a.channel) a.memory.now a.out.now l.row c.loop-row-test.true c.requires.1) l.invariant
-
-pub slice_bounds-put_row-start : goal.slice_bounds-put_row-start
-slice_bounds-put_row-start c =
-    let a = c.args in
-    let l = c.loop-row in
-    room_cut a.out.now _ _ (rows-room (number_of_channel a.channel) a.memory.now a.out.now l.row c.loop-row-test.true c.requires.1) l.invariant
-
 pub put_row-n-requires : goal.put_row-n-requires
 put_row-n-requires c =
     let a = c.args in
     let l = c.loop-row in
     (search rules, search rules, room_rest a.out.now _ _ (rows-room (number_of_channel a.channel) a.memory.now a.out.now l.row c.loop-row-test.true c.requires.1) l.invariant)
-
-pub overflow_add-n : goal.overflow_add-n
-overflow_add-n c =
-    let a = c.args in
-    let l = c.loop-row in
-    omega (arith, room_sum a.out.now _ _ (rows-room (number_of_channel a.channel) a.memory.now a.out.now l.row c.loop-row-test.true c.requires.1) l.invariant c.put_row-n.ensures)
 
 pub loop-row-preserved : goal.loop-row-preserved
 loop-row-preserved c =

@@ -8,7 +8,7 @@ use borrow.Author.Rules.{rules}
 use Rattle.tape.specs.Channel.{number_of_channel}
 use Rattle.tape.specs.Item.{rcl_item, enm_item, eoc_item, bytes_of}
 use Rattle.tape.specs.Tape.{rows_tape_of, tape_of}
-use Rattle.items.proofs.LawsOfLaid.{laid_then, room_front, room_cut, room_sum, room_rest}
+use Rattle.items.proofs.LawsOfLaid.{laid_then, room_front, room_rest}
 use Rattle.writer.proofs.Laws.{tape_parts}
 use Rattle.writer.proofs.put_tape.Goals as goal
 
@@ -42,37 +42,10 @@ put_item-n-requires c =
     let a = c.args in
     room_front a.out.now _ _ (two (number_of_channel a.channel) a.memory.now a.out.now c.requires.1)
 
-pub slice_bounds-put_item-count : goal.slice_bounds-put_item-count
-slice_bounds-put_item-count c =
-    let a = c.args in
-    room_cut a.out.now _ _ (two (number_of_channel a.channel) a.memory.now a.out.now c.requires.1) c.put_item-n.ensures
-
-pub slice_bounds-put_item-start : goal.slice_bounds-put_item-start
-slice_bounds-put_item-start c =
-    let a = c.args in
-    room_cut a.out.now _ _ (two (number_of_channel a.channel) a.memory.now a.out.now c.requires.1) c.put_item-n.ensures
-
 pub put_item-n-requires-2 : goal.put_item-n-requires-2
 put_item-n-requires-2 c =
     let a = c.args in
     room_rest a.out.now _ _ (two (number_of_channel a.channel) a.memory.now a.out.now c.requires.1) c.put_item-n.ensures
-
-pub overflow_add-n : goal.overflow_add-n
-overflow_add-n c =
-    let a = c.args in
-    omega (arith, room_sum a.out.now _ _ (two (number_of_channel a.channel) a.memory.now a.out.now c.requires.1) c.put_item-n.ensures c.put_item-n-2.ensures)
-
-pub slice_bounds-put_rows-count : goal.slice_bounds-put_rows-count
-slice_bounds-put_rows-count c =
-    let a = c.args in
-    let emptied = laid_then a.out.now _ _ (two (number_of_channel a.channel) a.memory.now a.out.now c.requires.1) c.put_item-n.ensures c.put_item-n-2.ensures in
-    room_cut a.out.now _ _ (three (number_of_channel a.channel) a.memory.now a.out.now c.requires.1) emptied
-
-pub slice_bounds-put_rows-start : goal.slice_bounds-put_rows-start
-slice_bounds-put_rows-start c =
-    let a = c.args in
-    let emptied = laid_then a.out.now _ _ (two (number_of_channel a.channel) a.memory.now a.out.now c.requires.1) c.put_item-n.ensures c.put_item-n-2.ensures in
-    room_cut a.out.now _ _ (three (number_of_channel a.channel) a.memory.now a.out.now c.requires.1) emptied
 
 pub put_rows-n-requires : goal.put_rows-n-requires
 put_rows-n-requires c =
@@ -80,39 +53,12 @@ put_rows-n-requires c =
     let emptied = laid_then a.out.now _ _ (two (number_of_channel a.channel) a.memory.now a.out.now c.requires.1) c.put_item-n.ensures c.put_item-n-2.ensures in
     (search rules, room_rest a.out.now _ _ (three (number_of_channel a.channel) a.memory.now a.out.now c.requires.1) emptied)
 
-pub overflow_add-n-2 : goal.overflow_add-n-2
-overflow_add-n-2 c =
-    let a = c.args in
-    let emptied = laid_then a.out.now _ _ (two (number_of_channel a.channel) a.memory.now a.out.now c.requires.1) c.put_item-n.ensures c.put_item-n-2.ensures in
-    omega (arith, room_sum a.out.now _ _ (three (number_of_channel a.channel) a.memory.now a.out.now c.requires.1) emptied c.put_rows-n.ensures)
-
-pub slice_bounds-put_item-count-2 : goal.slice_bounds-put_item-count-2
-slice_bounds-put_item-count-2 c =
-    let a = c.args in
-    let emptied = laid_then a.out.now _ _ (two (number_of_channel a.channel) a.memory.now a.out.now c.requires.1) c.put_item-n.ensures c.put_item-n-2.ensures in
-    let loaded = laid_then a.out.now _ _ (three (number_of_channel a.channel) a.memory.now a.out.now c.requires.1) emptied c.put_rows-n.ensures in
-    room_cut a.out.now _ _ (all (number_of_channel a.channel) a.memory.now a.out.now c.requires.1) loaded
-
-pub slice_bounds-put_item-start-2 : goal.slice_bounds-put_item-start-2
-slice_bounds-put_item-start-2 c =
-    let a = c.args in
-    let emptied = laid_then a.out.now _ _ (two (number_of_channel a.channel) a.memory.now a.out.now c.requires.1) c.put_item-n.ensures c.put_item-n-2.ensures in
-    let loaded = laid_then a.out.now _ _ (three (number_of_channel a.channel) a.memory.now a.out.now c.requires.1) emptied c.put_rows-n.ensures in
-    room_cut a.out.now _ _ (all (number_of_channel a.channel) a.memory.now a.out.now c.requires.1) loaded
-
 pub put_item-requires : goal.put_item-requires
 put_item-requires c =
     let a = c.args in
     let emptied = laid_then a.out.now _ _ (two (number_of_channel a.channel) a.memory.now a.out.now c.requires.1) c.put_item-n.ensures c.put_item-n-2.ensures in
     let loaded = laid_then a.out.now _ _ (three (number_of_channel a.channel) a.memory.now a.out.now c.requires.1) emptied c.put_rows-n.ensures in
     room_rest a.out.now _ _ (all (number_of_channel a.channel) a.memory.now a.out.now c.requires.1) loaded
-
-pub overflow_add-result : goal.overflow_add-result
-overflow_add-result c =
-    let a = c.args in
-    let emptied = laid_then a.out.now _ _ (two (number_of_channel a.channel) a.memory.now a.out.now c.requires.1) c.put_item-n.ensures c.put_item-n-2.ensures in
-    let loaded = laid_then a.out.now _ _ (three (number_of_channel a.channel) a.memory.now a.out.now c.requires.1) emptied c.put_rows-n.ensures in
-    omega (arith, room_sum a.out.now _ _ (all (number_of_channel a.channel) a.memory.now a.out.now c.requires.1) loaded c.put_item.ensures)
 
 pub returns : goal.returns
 returns c =
