@@ -1,10 +1,8 @@
 -- `put_rows` meets its contract. Assumes nothing.
 use mathlib.Core.Path.{◌≡◌}
 use native.Mathlib.Omega.{arith}
-use lib.ListN.{length}
 use borrow.Author.Rules.{rules}
 use Rattle.tape.specs.Channel.{number_of_channel}
-use Rattle.tape.specs.Tape.{row_tape_of, rows_tape_of}
 use Rattle.items.proofs.LawsOfLaid.{laid_none, laid_size, room_rest}
 use Rattle.writer.proofs.Laws.{rows_none, rows_more, rows-room}
 use Rattle.writer.proofs.put_rows.Goals as goal

@@ -1,7 +1,6 @@
 -- `put_tape` meets its contract. Assumes nothing.
 use mathlib.Core.Path.{sym}
 use mathlib.Core.List.{List, ◌++◌}
-use native.Mathlib.Omega.{arith}
 use Prim.Native.Nat.{ℕ, ◌≤◌}
 use lib.ListN.{length}
 use borrow.Author.Rules.{rules}
