@@ -9,6 +9,7 @@ ghost use Rattle.items.specs.Laid.{Laid};
 ghost use Rattle.frames.specs.Held.{held_of};
 
 // The frame line of a pair. Gives how many bytes it is.
+#[tactic(auto, using(wire::proofs::Laws::length_line_of))]
 fn put_line(out: &mut [u8], first: u8, second: u8) -> usize
     requires { length (line_of first second) ≤ length out.old }
     ensures { Laid out.old (line_of first second) out.new result }

@@ -9,15 +9,6 @@ use Rattle.wire.proofs.Laws.{length_line_of}
 use Rattle.frames.proofs.Laws.{written_line}
 use Rattle.frames.proofs.put_line.Goals as goal
 
-pub slice_bounds-write_line-end : goal.slice_bounds-write_line-end
-slice_bounds-write_line-end c = let a = c.args in omega (arith, length_line_of a.first a.second)
-
-pub slice_bounds-write_line-end-2 : goal.slice_bounds-write_line-end-2
-slice_bounds-write_line-end-2 c =
-    let a = c.args in
-    let size = length_line_of a.first a.second in
-    sym (mid_len 0 5 a.out.now (omega arith))
-
 pub returns : goal.returns
 returns c =
     let a = c.args in
