@@ -1,14 +1,8 @@
 -- `put_held` meets its contract. Assumes nothing.
-use mathlib.Core.Path.{sym}
-use native.Mathlib.Omega.{arith}
-use lib.Seq.{length-take-le}
 use Rattle.items.proofs.LawsOfLaid.{laid_then, room_front, room_rest}
 use Rattle.frames.specs.Held.{last_at}
 use Rattle.frames.proofs.Laws.{last_all, held_two, held_all, held_laid}
 use Rattle.frames.proofs.put_held.Goals as goal
-
-pub slice_bounds-put_pairs-end : goal.slice_bounds-put_pairs-end
-slice_bounds-put_pairs-end c = sym (length-take-le _ _ (omega arith))
 
 pub put_pairs-n-requires : goal.put_pairs-n-requires
 put_pairs-n-requires c =

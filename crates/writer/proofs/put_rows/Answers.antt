@@ -3,7 +3,7 @@ use mathlib.Core.Path.{◌≡◌}
 use native.Mathlib.Omega.{arith}
 use borrow.Author.Rules.{rules}
 use Rattle.tape.specs.Channel.{number_of_channel}
-use Rattle.items.proofs.LawsOfLaid.{laid_none, laid_size, room_rest}
+use Rattle.items.proofs.LawsOfLaid.{laid_none, room_rest}
 use Rattle.writer.proofs.Laws.{rows_none, rows_more, rows-room}
 use Rattle.writer.proofs.put_rows.Goals as goal
 
@@ -21,9 +21,6 @@ loop-row-preserved c =
     let a = c.args in
     let l = c.loop-row in
     rows_more (number_of_channel a.channel) a.memory.now a.out.now l.row c.loop-row-test.true c.requires.1 l.invariant c.put_row-n.ensures
-
-pub shape_of-out : goal.shape_of-out
-shape_of-out c = laid_size c.loop-row.invariant
 
 pub returns : goal.returns
 returns c = let l = c.loop-row in let e : l.row ≡ 15 = omega arith in rw e at l.invariant
