@@ -49,11 +49,11 @@ module _ (h : Hand) (screen raw : List ℕ) (frame : ℕ) (tape : raw ≡ tape_o
     pub load_room : (out : List ℕ) → length out ≡ 80000 → length (held_of raw held) ≤ length (tail_of out (h.frames * 5))
     load_room out size = let s = load_size.pairs in cue_room raw held (show screen (number_of_channel h.channel) held ∷ []) h.frames out load_cued (omega (arith, load_end)) size
 
-    pub load_kept : (out : List ℕ) → (are_cells screen && is_writable screen) ≡ true → {screen₁ out₁ : List ℕ} → length screen ≡ 960 → screen₁ ≡ replicate (length screen) 0
+    pub load_kept : (out : List ℕ) → (are_cells screen && is_writable screen) ≡ true → {screen₁ out₁ : List ℕ} → screen₁ ≡ replicate 960 0
         → out₁ ≡ over out (h.frames * 5) (held_of raw held) → Does (λ t. show_of t frame) h screen out (Ok (hand h.channel false (h.frames + length raw / 2 + held))) screen₁ out₁
     unfolding blank
-    load_kept out fit {screen₁} size b o =
-        let empty : blank ≡ screen₁ = ap (λ (n : ℕ). replicate n 0) (sym size) ∙ sym b in
+    load_kept out fit {screen₁} b o =
+        let empty : blank ≡ screen₁ = sym b in
         let s = load_size.pairs in
         does_cues (λ t. show_of t frame) h screen out (show screen (number_of_channel h.channel) held ∷ []) (omega (arith, load_cued.count)) (o ∙ ap (over out (h.frames * 5)) load_cued.lines)
         (λ cues n. show_kept (take_of h screen cues) frame fit (load_plan e cues n) ∙ (λ i. went 0 0 (take (number_of_channel h.channel) false (empty i) (cues ++ (show screen (number_of_channel h.channel) held ∷ [])))))

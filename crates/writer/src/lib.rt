@@ -35,6 +35,8 @@ impl From<Refusal> for u16 {
     }
 }
 
+// A row's place in the memory stays as it is, for the reason that `lines` has; and 80h behind a row's cells, since `next_item_of` and its laws take three codes and
+// no cell has 80h that is written.
 // The code of cell `k` of a row of `end` cells; behind them 80h stands, so that the next row is no part of this one.
 fn code_before(memory: &[u8], at: usize, end: usize, k: usize) -> u8
     requires { (at + 64 ≤ length memory.now) × (end ≤ 32) }
@@ -58,7 +60,7 @@ fn item_at(memory: &[u8], at: usize, end: usize, k: usize) -> Item
 }
 
 // The items of a row from cell `from` on, at the front of a buffer. Gives how many bytes they are.
-// The loop stays as it is: (d) an item leads on one to three columns by what it is, so that no range, slice or chunk is what it goes over.
+// The loop stays as it is: an item leads on one to three columns by what it is, so that no range, slice or chunk is what it goes over.
 fn put_rest(
     out: &mut [u8],
     channel: Channel,
@@ -82,8 +84,8 @@ fn put_rest(
 }
 
 // A row, counted from 0: nothing where it is empty, else its preamble and its cells up to the last non-empty one.
-fn put_row(out: &mut [u8], channel: Channel, memory: &[u8], row: usize) -> usize
-    requires { (length memory.now ≡ 960) × (row < 15)
+fn put_row(out: &mut [u8], channel: Channel, memory: &[u8; 960], row: usize) -> usize
+    requires { (row < 15)
         × (length (row_tape_of (number_of_channel channel) memory.now row) ≤ length out.old) }
     ensures { Laid out.old (row_tape_of (number_of_channel channel) memory.now row) out.new result }
 {
@@ -99,8 +101,8 @@ fn put_row(out: &mut [u8], channel: Channel, memory: &[u8], row: usize) -> usize
 }
 
 // All rows, from the top.
-fn put_rows(out: &mut [u8], channel: Channel, memory: &[u8]) -> usize
-    requires { (length memory.now ≡ 960) × (length (rows_tape_of (number_of_channel channel) memory.now 15) ≤ length out.old) }
+fn put_rows(out: &mut [u8], channel: Channel, memory: &[u8; 960]) -> usize
+    requires { length (rows_tape_of (number_of_channel channel) memory.now 15) ≤ length out.old }
     ensures { Laid out.old (rows_tape_of (number_of_channel channel) memory.now 15) out.new result }
 {
     let mut n = 0;
@@ -111,8 +113,8 @@ fn put_rows(out: &mut [u8], channel: Channel, memory: &[u8]) -> usize
 }
 
 // The whole tape, at the front of a buffer.
-fn put_tape(out: &mut [u8], channel: Channel, memory: &[u8]) -> usize
-    requires { (length memory.now ≡ 960) × (length (tape_of memory.now (number_of_channel channel)) ≤ length out.old) }
+fn put_tape(out: &mut [u8], channel: Channel, memory: &[u8; 960]) -> usize
+    requires { length (tape_of memory.now (number_of_channel channel)) ≤ length out.old }
     ensures { Laid out.old (tape_of memory.now (number_of_channel channel)) out.new result }
 {
     let mut n = items::put_item(out, channel, items::RCL);
@@ -121,14 +123,12 @@ fn put_tape(out: &mut [u8], channel: Channel, memory: &[u8]) -> usize
     n + items::put_item(&mut out[n..], channel, items::EOC)
 }
 
-// The tape of a screen of 960 bytes on a channel, into a buffer of 4,096, and how many bytes it has; the buffer's bytes past the pairs stay, and on a refusal all of them.
+// The tape of a screen on a channel, into a buffer of 4,096 bytes.
 #[tactic(auto, unfolding(crate::specs::Write::write_tape_of))]
-pub fn write_tape(memory: &[u8], channel: u8, out: &mut [u8]) -> Result<u16, Refusal>
+fn write_sized(memory: &[u8; 960], channel: u8, out: &mut [u8]) -> Result<u16, Refusal>
+    requires { length out.old ≡ 4096 }
     ensures { outcome (number_of_tape result) (value_of_tape result) out.new ≡ write_tape_of memory.now channel out.old }
 {
-    if memory.len() != 960 || out.len() != 4096 {
-        return Err(Refusal::WrongLength);
-    }
     if !writable::are_cells(memory) {
         return Err(Refusal::Invalid);
     }
@@ -139,4 +139,15 @@ pub fn write_tape(memory: &[u8], channel: u8, out: &mut [u8]) -> Result<u16, Ref
         return Err(Refusal::NotWritable);
     }
     Ok(put_tape(out, channel, memory) as u16)
+}
+
+// The tape of a screen of 960 bytes on a channel, into a buffer of 4,096, and how many bytes it has; the buffer's bytes past the pairs stay, and on a refusal all of them.
+#[tactic(auto, unfolding(crate::specs::Write::write_tape_of))]
+pub fn write_tape(memory: &[u8], channel: u8, out: &mut [u8]) -> Result<u16, Refusal>
+    ensures { outcome (number_of_tape result) (value_of_tape result) out.new ≡ write_tape_of memory.now channel out.old }
+{
+    match memory.as_array() {
+        Some(memory) if out.len() == 4096 => write_sized(memory, channel, out),
+        _ => Err(Refusal::WrongLength),
+    }
 }

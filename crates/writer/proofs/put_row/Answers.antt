@@ -24,17 +24,17 @@ pub put_item-n-requires : goal.put_item-n-requires
 put_item-n-requires c =
     let a = c.args in
     let parts = row_some (number_of_channel a.channel) a.memory.now a.row c.end-end.result c.end-end.ensures.0 c.row_pen-pen.result c.lead.result c.preamble_item-item.result c.if-end-eq0.false c.row_pen-pen.ensures c.lead.ensures.0 c.preamble_item-item.ensures in
-    room_front a.out.now _ _ (rw parts at c.requires.2)
+    room_front a.out.now _ _ (rw parts at c.requires.1)
 
 pub put_rest-requires : goal.put_rest-requires
 put_rest-requires c =
     let a = c.args in
     let pre = c.requires in
     let parts = row_some (number_of_channel a.channel) a.memory.now a.row c.end-end.result c.end-end.ensures.0 c.row_pen-pen.result c.lead.result c.preamble_item-item.result c.if-end-eq0.false c.row_pen-pen.ensures c.lead.ensures.0 c.preamble_item-item.ensures in
-    (omega arith, c.end-end.ensures.1, room_rest a.out.now _ _ (rw parts at pre.2) c.put_item-n.ensures)
+    (omega arith, c.end-end.ensures.1, room_rest a.out.now _ _ (rw parts at pre.1) c.put_item-n.ensures)
 
 pub returns : goal.returns
 returns c =
     let a = c.args in
     let parts = row_some (number_of_channel a.channel) a.memory.now a.row c.end-end.result c.end-end.ensures.0 c.row_pen-pen.result c.lead.result c.preamble_item-item.result c.if-end-eq0.false c.row_pen-pen.ensures c.lead.ensures.0 c.preamble_item-item.ensures in
-    rw parts (laid_then a.out.now _ _ (rw parts at c.requires.2) c.put_item-n.ensures c.put_rest.ensures)
+    rw parts (laid_then a.out.now _ _ (rw parts at c.requires.1) c.put_item-n.ensures c.put_rest.ensures)

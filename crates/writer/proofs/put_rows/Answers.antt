@@ -14,13 +14,13 @@ pub put_row-n-requires : goal.put_row-n-requires
 put_row-n-requires c =
     let a = c.args in
     let l = c.loop-row in
-    (search rules, search rules, room_rest a.out.now _ _ (rows-room (number_of_channel a.channel) a.memory.now a.out.now l.row c.loop-row-test.true c.requires.1) l.invariant)
+    (search rules, room_rest a.out.now _ _ (rows-room (number_of_channel a.channel) a.memory.now a.out.now l.row c.loop-row-test.true c.requires) l.invariant)
 
 pub loop-row-preserved : goal.loop-row-preserved
 loop-row-preserved c =
     let a = c.args in
     let l = c.loop-row in
-    rows_more (number_of_channel a.channel) a.memory.now a.out.now l.row c.loop-row-test.true c.requires.1 l.invariant c.put_row-n.ensures
+    rows_more (number_of_channel a.channel) a.memory.now a.out.now l.row c.loop-row-test.true c.requires l.invariant c.put_row-n.ensures
 
 pub returns : goal.returns
 returns c = let l = c.loop-row in let e : l.row ≡ 15 = omega arith in rw e at l.invariant

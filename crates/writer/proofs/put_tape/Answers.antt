@@ -39,29 +39,29 @@ module _ (channel : ℕ) (memory : List ℕ) where
 pub put_item-n-requires : goal.put_item-n-requires
 put_item-n-requires c =
     let a = c.args in
-    room_front a.out.now _ _ (two (number_of_channel a.channel) a.memory.now a.out.now c.requires.1)
+    room_front a.out.now _ _ (two (number_of_channel a.channel) a.memory.now a.out.now c.requires)
 
 pub put_item-n-requires-2 : goal.put_item-n-requires-2
 put_item-n-requires-2 c =
     let a = c.args in
-    room_rest a.out.now _ _ (two (number_of_channel a.channel) a.memory.now a.out.now c.requires.1) c.put_item-n.ensures
+    room_rest a.out.now _ _ (two (number_of_channel a.channel) a.memory.now a.out.now c.requires) c.put_item-n.ensures
 
 pub put_rows-n-requires : goal.put_rows-n-requires
 put_rows-n-requires c =
     let a = c.args in
-    let emptied = laid_then a.out.now _ _ (two (number_of_channel a.channel) a.memory.now a.out.now c.requires.1) c.put_item-n.ensures c.put_item-n-2.ensures in
-    (search rules, room_rest a.out.now _ _ (three (number_of_channel a.channel) a.memory.now a.out.now c.requires.1) emptied)
+    let emptied = laid_then a.out.now _ _ (two (number_of_channel a.channel) a.memory.now a.out.now c.requires) c.put_item-n.ensures c.put_item-n-2.ensures in
+    room_rest a.out.now _ _ (three (number_of_channel a.channel) a.memory.now a.out.now c.requires) emptied
 
 pub put_item-requires : goal.put_item-requires
 put_item-requires c =
     let a = c.args in
-    let emptied = laid_then a.out.now _ _ (two (number_of_channel a.channel) a.memory.now a.out.now c.requires.1) c.put_item-n.ensures c.put_item-n-2.ensures in
-    let loaded = laid_then a.out.now _ _ (three (number_of_channel a.channel) a.memory.now a.out.now c.requires.1) emptied c.put_rows-n.ensures in
-    room_rest a.out.now _ _ (all (number_of_channel a.channel) a.memory.now a.out.now c.requires.1) loaded
+    let emptied = laid_then a.out.now _ _ (two (number_of_channel a.channel) a.memory.now a.out.now c.requires) c.put_item-n.ensures c.put_item-n-2.ensures in
+    let loaded = laid_then a.out.now _ _ (three (number_of_channel a.channel) a.memory.now a.out.now c.requires) emptied c.put_rows-n.ensures in
+    room_rest a.out.now _ _ (all (number_of_channel a.channel) a.memory.now a.out.now c.requires) loaded
 
 pub returns : goal.returns
 returns c =
     let a = c.args in
-    let emptied = laid_then a.out.now _ _ (two (number_of_channel a.channel) a.memory.now a.out.now c.requires.1) c.put_item-n.ensures c.put_item-n-2.ensures in
-    let loaded = laid_then a.out.now _ _ (three (number_of_channel a.channel) a.memory.now a.out.now c.requires.1) emptied c.put_rows-n.ensures in
-    rw (sym (tape_parts (number_of_channel a.channel) a.memory.now)) (laid_then a.out.now _ _ (all (number_of_channel a.channel) a.memory.now a.out.now c.requires.1) loaded c.put_item.ensures)
+    let emptied = laid_then a.out.now _ _ (two (number_of_channel a.channel) a.memory.now a.out.now c.requires) c.put_item-n.ensures c.put_item-n-2.ensures in
+    let loaded = laid_then a.out.now _ _ (three (number_of_channel a.channel) a.memory.now a.out.now c.requires) emptied c.put_rows-n.ensures in
+    rw (sym (tape_parts (number_of_channel a.channel) a.memory.now)) (laid_then a.out.now _ _ (all (number_of_channel a.channel) a.memory.now a.out.now c.requires) loaded c.put_item.ensures)
