@@ -1,5 +1,5 @@
 // What the codes do: the mode by value and the cells lent, and each act one equation with its definition.
-// The pair of mode and cells stays as it is: in one struct, `Captions { mode, cells: &mut [u8] }`, each act says a third thing beside `Sound` and its equation,
+// The pair of mode and cells, here and in typing, placing, styles, rollup and decode, stays as it is: in one struct, `Captions { mode, cells: &mut [u8] }`, each act says a third thing beside `Sound` and its equation,
 // `self.new.cells.ghost_name ≡ self.old.cells.ghost_name`, or its caller learns nothing of the cells it lent; and `styles::rcl`, `rdc`, `text` and
 // `placing::tabbed`, which take a mode alone, would ask for cells. Nor can the struct itself be `Sound`: `typing::write` takes any code, also one that no cell may hold.
 #![tactic(auto)]

@@ -8,7 +8,7 @@ pub mod pens;
 ghost use Rattle.std.specs.Prelude.{◌≡◌, ◌+◌, ◌≤◌};
 ghost use Rattle.cell.specs.Place.{OnScreen, cell_at, row_at};
 
-// Caption rows are 1 to 15.
+// Caption rows are 1 to 15. That range stays as it is: a clause of three functions, since a tuple struct takes no ghost field, and a record may hold any row.
 #[derive(Clone, Copy, Debug, PartialEq, Eq)]
 pub struct Row(pub u8);
 

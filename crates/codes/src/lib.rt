@@ -13,6 +13,7 @@ use cell::{Column, Row};
 use rows::preamble_row;
 
 // A code stays as it is: `Unassigned` is one among the others, and no `None`, since `code_of`, `Proper` and `is_unassigned` take it as a code.
+// That what it carries lies in its ranges stays as it is: a clause, `Proper`, since a variant takes no ghost field.
 #[derive(Clone, Copy, Debug, PartialEq, Eq)]
 pub enum Code {
     Unassigned,
@@ -39,7 +40,8 @@ pub enum Code {
     Eoc,
 }
 
-// The channel that a first byte is for. It stays as it is: the number 1 or 2, since `channel_of` has it so, and so has `loikrasun_select` for C.
+// The channel that a first byte is for. It stays as it is: the number 1 or 2, since it goes into the state beside the selected one, and both are bytes of the record
+// there (`control_of`, `fields_of`); `tape::Channel` stands above.
 #[tactic(auto, unfolding(crate::specs::Codes::channel_of))]
 pub fn channel(a: u8) -> u8
     ensures { (result ≡ channel_of a) × (1 ≤ result) × (result ≤ 2) }
@@ -47,7 +49,8 @@ pub fn channel(a: u8) -> u8
     if a <= 0x17 { 1 } else { 2 }
 }
 
-// What the pair says. A pair stays as it is: two bytes, since a type of control pairs would be narrower than what `classify` takes.
+// What the pair says. A pair stays as it is: two bytes with their ranges in a clause. Of the four bounds only `classify` and its callers ask all; below it each
+// function asks for some (a up to 17h, b from 40h, b up to 3Fh), so that a struct with a ghost field would go in here and be taken apart in the next line.
 #[tactic(auto, unfolding(crate::specs::Codes::code_of))]
 pub fn classify(a: u8, b: u8) -> Code
     requires { (0x10 ≤ a) × (a ≤ 0x1f) × (0x20 ≤ b) × (b ≤ 0x7f) }

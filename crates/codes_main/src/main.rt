@@ -5,7 +5,8 @@ mod text;
 
 ghost use Rattle.std.specs.Prelude.{◌≤◌};
 
-use text::{print, print_line};
+use input::print;
+use text::print_line;
 
 // The lines of a first byte, one for each second byte with which it is assigned; gives how many they are.
 fn print_pairs(out: &impl Print, a: u8) -> u64
@@ -27,7 +28,7 @@ fn main(rt: HostRuntime) {
     for a in 0x10..=0x1f {
         n += print_pairs(&rt, a);
     }
-    print(&rt, "assigned pairs: ");
+    print(&rt, b"assigned pairs: ");
     let _ = print!(rt; "{n}");
-    print(&rt, "\n");
+    print(&rt, b"\n");
 }

@@ -5,43 +5,40 @@ ghost use Rattle.codes.specs.Proper.{Proper};
 use cell::pens::mid_row_pen;
 use cell::{Column, Pen, Row};
 use codes::Code;
+use input::print;
 
-fn colour(colour: u8) -> &'static str {
+fn colour(colour: u8) -> &'static [u8] {
     match colour {
-        0 => " white",
-        1 => " green",
-        2 => " blue",
-        3 => " cyan",
-        4 => " red",
-        5 => " yellow",
-        6 => " magenta",
-        _ => " unnamed",
+        0 => b" white",
+        1 => b" green",
+        2 => b" blue",
+        3 => b" cyan",
+        4 => b" red",
+        5 => b" yellow",
+        6 => b" magenta",
+        _ => b" unnamed",
     }
 }
 
 // A code that carries no number.
-fn name(code: Code) -> &'static str {
+fn name(code: Code) -> &'static [u8] {
     match code {
-        Code::Rcl => " RCL",
-        Code::Bs => " BS",
-        Code::Der => " DER",
-        Code::Fon => " FON",
-        Code::Rdc => " RDC",
-        Code::Tr => " TR",
-        Code::Rtd => " RTD",
-        Code::Edm => " EDM",
-        Code::Cr => " CR",
-        Code::Enm => " ENM",
-        Code::Eoc => " EOC",
-        _ => " ---",
+        Code::Rcl => b" RCL",
+        Code::Bs => b" BS",
+        Code::Der => b" DER",
+        Code::Fon => b" FON",
+        Code::Rdc => b" RDC",
+        Code::Tr => b" TR",
+        Code::Rtd => b" RTD",
+        Code::Edm => b" EDM",
+        Code::Cr => b" CR",
+        Code::Enm => b" ENM",
+        Code::Eoc => b" EOC",
+        _ => b" ---",
     }
 }
 
-pub fn print(out: &impl Print, word: &str) {
-    let _ = print!(out; "{word}");
-}
-
-fn print_counted(out: &impl Print, word: &str, n: u8) {
+fn print_counted(out: &impl Print, word: &[u8], n: u8) {
     print(out, word);
     let _ = print!(out; "{n}");
 }
@@ -49,13 +46,13 @@ fn print_counted(out: &impl Print, word: &str, n: u8) {
 // `plain` is a pen with neither italics nor underline.
 fn print_looks(out: &impl Print, pen: Pen) {
     if pen.italics {
-        print(out, " italics");
+        print(out, b" italics");
     }
     if pen.underline {
-        print(out, " underline");
+        print(out, b" underline");
     }
     if !pen.italics && !pen.underline {
-        print(out, " plain");
+        print(out, b" plain");
     }
 }
 
@@ -64,7 +61,7 @@ fn print_mid_row(out: &impl Print, b: u8)
     requires { (0x20 ≤ b) × (b ≤ 0x2f) }
 {
     let pen = Pen::unpack(mid_row_pen(0, b));
-    print(out, " mid-row");
+    print(out, b" mid-row");
     if !pen.italics {
         print(out, colour(pen.colour));
     }
@@ -72,14 +69,14 @@ fn print_mid_row(out: &impl Print, b: u8)
 }
 
 fn print_preamble(out: &impl Print, row: Row, column: Column, pen: Pen) {
-    print_counted(out, " preamble row ", row.0);
-    print_counted(out, " column ", column.0);
+    print_counted(out, b" preamble row ", row.0);
+    print_counted(out, b" column ", column.0);
     print(out, colour(pen.colour));
     print_looks(out, pen);
 }
 
 fn print_special(out: &impl Print, code: u8) {
-    print(out, " special ");
+    print(out, b" special ");
     let _ = print!(out; "{code:02X}");
 }
 
@@ -89,9 +86,9 @@ fn print_code(out: &impl Print, code: Code)
     match code {
         Code::MidRow(b) => print_mid_row(out, b),
         Code::Special(code) => print_special(out, code),
-        Code::Tab(n) => print_counted(out, " tab ", n),
+        Code::Tab(n) => print_counted(out, b" tab ", n),
         Code::Preamble(row, column, pen) => print_preamble(out, row, column, Pen::unpack(pen)),
-        Code::Ru(n) => print_counted(out, " roll-up ", n),
+        Code::Ru(n) => print_counted(out, b" roll-up ", n),
         _ => print(out, name(code)),
     }
 }
@@ -102,7 +99,7 @@ pub fn print_line(out: &impl Print, a: u8, b: u8)
 {
     let _ = print!(out; "{a:02X}");
     let _ = print!(out; "{b:02X}");
-    print_counted(out, " channel ", codes::channel(a));
+    print_counted(out, b" channel ", codes::channel(a));
     print_code(out, codes::classify(a, b));
-    print(out, "\n");
+    print(out, b"\n");
 }

@@ -13,7 +13,7 @@ use cell::Row;
 use replay::Entry;
 use state::State;
 
-// Why a call is refused.
+// Why a call is refused. That `writer` and `steps` have such an enum each stays as it is: one for all would let `take` say by its type that a screen is not writable.
 #[derive(Clone, Copy, Debug, PartialEq, Eq)]
 pub enum Refusal {
     WrongLength,
@@ -147,7 +147,8 @@ pub fn row(desk: &[u8], number: u8) -> Result<u16, Refusal>
     Ok(record::read_count(desk, Row(number)) as u16)
 }
 
-// The displayed half of the record, as a part of it; an empty part on refusal.
+// The displayed half of the record, as a part of it; an empty part on refusal. What it gives stays as it is: a part and no Result, since that is the
+// paper's word for this one call (`view_of`), and `view_number` gives the refusal.
 pub fn view(desk: &[u8]) -> &[u8]
     ensures { result.now ≡ view_of desk.now }
 {

@@ -40,13 +40,9 @@ pub enum Line {
     Call(Call),
 }
 
-// The value of a digit, 0-9 A-F; 0 of any other letter.
+// The value of a digit, 0-9 A-F; any other letter counts as 0.
 fn digit(letter: u8) -> u8 {
-    match letter {
-        b'0'..=b'9' => letter - b'0',
-        b'A'..=b'F' => letter - b'A' + 10,
-        _ => 0,
-    }
+    wire::digit(letter).unwrap_or(0)
 }
 
 // The decimal number of a field; 0 where there is no such field.

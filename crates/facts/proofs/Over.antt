@@ -1,13 +1,14 @@
 -- A list written over: its length, what lies inside and outside, one store more, a lent part that comes back, a text behind a text. Assumes nothing.
 use mathlib.Core.Path.{◌≡◌, refl, ap, sym, ◌∙◌}
-use mathlib.Core.List.{List, [], ◌∷◌, ◌++◌}
+use mathlib.Core.List.{List, [], ◌∷◌, ◌++◌, append_assoc}
 use Prim.Native.Nat.{ℕ, zero, suc, ◌+◌, ◌-◌, ◌<◌, ◌≤◌}
 use native.Mathlib.Nat.{add-sub_cancel_left, add-zero, zero-add, suc-add, not-suc-le-zero, le_of_suc-le-suc, suc-ne-zero}
-use native.Mathlib.Numerals.{add-one}
 use native.Mathlib.Omega.{arith}
 use lib.ListN.{length, get_or, set, take, drop, length-drop, take-append-drop}
-use lib.Seq.{get_or-drop, get_or-take, take-suc, length-take-le}
+use lib.Seq.{get_or-drop, get_or-take, length-take-le}
 use borrow.Rule.Slice.PartMut.{put_mid}
+use Rattle.std.specs.List.{copy_within}
+use Rattle.std.proofs.lemmas.List.{drop-drop}
 use Rattle.facts.specs.Over.{over, part, exchange_of}
 
 pub length-over : (d : List ℕ) (at : ℕ) (s : List ℕ) → length (over d at s) ≡ length d
@@ -71,19 +72,6 @@ pub over_two : (d : List ℕ) (at v w : ℕ) → set (set d at v) (at + 1) w ≡
 over_two d at v w =
     let one : set d at v ≡ over d at (v ∷ []) = (λ i. set (sym (over_nil d at) i) (sym (add-zero at) i) v) ∙ over_snoc d at [] 0 v refl in
     ap (λ (l : List ℕ). set l (at + 1) w) one ∙ over_snoc d at (v ∷ []) 1 w refl
-
--- one turn of a loop that copies the bytes from `from` on
-pub over_more : (d : List ℕ) (at : ℕ) (s : List ℕ) (from j : ℕ) {o : List ℕ} {v : ℕ} → from + j < length s → o ≡ over d at (take j (drop from s))
-    → v ≡ get_or s (from + j) 0 → set o (at + j) v ≡ over d at (take (j + 1) (drop from s))
-over_more d at s from j {o} {v} h p e =
-    let g : j < length (drop from s) = simp length-drop (omega arith) in
-    let l : length (take j (drop from s)) ≡ j = length-take-le j (drop from s) (omega arith) in
-    ap (λ (o : List ℕ). set o (at + j) v) p
-    ∙ over_snoc d at (take j (drop from s)) j v l
-    ∙ ap (over d at)
-    (ap (λ (x : ℕ). take j (drop from s) ++ (x ∷ [])) (e ∙ sym (get_or-drop from s j 0))
-    ∙ sym (take-suc (drop from s) j 0 g)
-    ∙ ap (λ (n : ℕ). take n (drop from s)) (sym (add-one j)))
 
 -- a part that was lent and comes back
 mid_over : (d : List ℕ) (a : ℕ) (y : List ℕ) → a + length y ≤ length d → put_mid a (length y) d y ≡ over d a y
@@ -154,12 +142,11 @@ exchange_halves d n size =
     (λ i. sym front i ++ (part d 0 n ++ drop n (sym behind i)))
     ∙ part-over first n n (length-part d 0 n (omega arith)) (omega (arith, length-over d 0 (part d n n))) refl
 
--- One turn of the loop that slides bytes down: what is read lies behind what is covered.
-pub slide_more : (d : List ℕ) (to from j : ℕ) {o : List ℕ} → to ≤ from → from + j < length d → o ≡ over d to (part d from j)
-    → set o (to + j) (get_or o (from + j) 0) ≡ over d to (part d from (j + 1))
-slide_more d to from j {o} low high e =
-    over_more d to d from j high e
-    (ap (λ (l : List ℕ). get_or l (from + j) 0) e ∙ behind_over d to (part d from j) (from + j) (omega (arith, length-part d from j (omega arith))))
+-- the same of bytes that the library copies within the whole
+pub over_within : (d : List ℕ) (to from n : ℕ) → to ≤ from → from + n ≤ length d → copy_within d from (from + n) to ≡ over d to (part d from n)
+over_within d to from n low high =
+    rw (add-sub_cancel_left from, ← drop-drop n to d, append_assoc (take to d) (take n (drop from d)) (drop n (drop to d)))
+    (part-over d to n (length-part d from n high) (omega arith) refl)
 
 -- the same of a part lent by its two ends
 pub over_lent : (d : List ℕ) (at n : ℕ) (y : List ℕ) → length y ≡ n → at + n ≤ length d → put_mid at ((at + n) - at) d y ≡ over d at y

@@ -13,8 +13,8 @@ pub fn choose<T: Copy>(test: bool, x: T, y: T) -> T
     if test { x } else { y }
 }
 
-// What is lent stays as it is: all the bytes, with a place and a number beside them, since `over`, `part` and `blank_of`, by which the crates above say
-// what they write and test, name places in the whole.
+// What is lent stays as it is: all the bytes, with a place and a number beside them. With the part lent alone, each of a dozen calls above would cut it out by the
+// same two sums, and each of their proofs would bring it back into the whole, where `over`, `part` and `blank_of` name its place; here that is proved once.
 
 // The whole of a lent part becomes 0.
 pub fn blank(out: &mut [u8])
@@ -41,15 +41,13 @@ pub fn copy(out: &mut [u8], src: &[u8])
     out[..src.len()].copy_from_slice(src);
 }
 
-// `n` bytes from `from` on go down to `to`, one after the other: what they cover is read before it is covered.
-#[tactic(auto, using(crate::proofs::Over::over_nil, crate::proofs::Over::slide_more))]
+// `n` bytes from `from` on go down to `to`, which may cover some of them.
+#[tactic(auto, using(crate::proofs::Over::over_within))]
 pub fn slide(bytes: &mut [u8], to: usize, from: usize, n: usize)
     requires { (to ≤ from) × (from + n ≤ length bytes.old) }
     ensures { bytes.new ≡ over bytes.old to (part bytes.old from n) }
 {
-    for j in 0..n {
-        bytes[to + j] = bytes[from + j];
-    }
+    bytes.copy_within(from..from + n, to);
 }
 
 // `n` bytes go from `from` to `to`, by way of a copy since the two may overlap, after `size` bytes from `at` on became 0.

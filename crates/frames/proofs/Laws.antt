@@ -1,11 +1,12 @@
 -- A frame line in a part of five bytes, which line of raw bytes comes next, and raw bytes that are held. Assumes nothing.
 use mathlib.Core.Path.{◌≡◌, refl, sym, ap, ◌∙◌}
-use mathlib.Core.List.{List, [], ◌∷◌, ◌++◌}
+use mathlib.Core.List.{List, [], ◌∷◌, ◌++◌, append_assoc}
 use Prim.Native.Nat.{ℕ, suc, ◌+◌, ◌-◌, ◌<◌, ◌≤◌}
 use native.Mathlib.Omega.{arith}
 use lib.ListN.{length, get_or, take, drop, length-append, length-drop}
 use lib.Seq.{take_all, take_at, drop_at}
 use borrow.Author.Tests.{eq-eqb}
+use borrow.Rule.Slice.PartMut.{put_mid}
 use Rattle.wire.specs.Line.{line_of}
 use Rattle.wire.specs.Written.{Outcome, outcome, write_line_of}
 use Rattle.wire.specs.Reel.{Pairs, reel_of_raw}
@@ -13,7 +14,7 @@ use Rattle.wire.proofs.LawsOfReel.{reel_of_raw_then}
 use Rattle.tape.specs.Programme.{nulls_of}
 use Rattle.tape.proofs.LawsOfSizes.{nulls_of_pairs}
 use Rattle.items.specs.Laid.{Laid}
-use Rattle.items.proofs.LawsOfLaid.{laid_then, room_front, room_rest}
+use Rattle.items.proofs.LawsOfLaid.{tail_of, laid_then, room_front}
 use Rattle.frames.specs.Held.{last_at, held_of}
 
 -- a buffer of five bytes takes a line
@@ -43,26 +44,29 @@ nulls_more n i h = let e : n - i ≡ suc (n - (i + 1)) = omega arith in ap (λ (
 pub last_all : (raw : List ℕ) (last : ℕ) → take (length raw - last) (drop last raw) ≡ drop last raw
 last_all raw last = take_all (length raw - last) (drop last raw) (simp length-drop (omega arith))
 
-module _ (out : List ℕ) (n : ℕ) (raw : List ℕ) (held : ℕ) where
-  pub held_load : n + length (held_of raw held) ≤ length out → n + length (reel_of_raw (take (last_at raw) raw)) ≤ length out
+module _ (raw : List ℕ) (held : ℕ) where
+  abbrev pub loaded : List ℕ
+  loaded = reel_of_raw (take (last_at raw) raw)
+
+  abbrev pub waited : List ℕ
+  waited = reel_of_raw (nulls_of held)
+
+  abbrev pub shown : List ℕ
+  shown = reel_of_raw (drop (last_at raw) raw)
+
+  held_parts : (loaded ++ waited) ++ shown ≡ held_of raw held
   unfolding held_of
-  held_load h = room_front out n (reel_of_raw (take (last_at raw) raw)) _ h
+  held_parts = append_assoc loaded waited shown
 
-  module _ {o : List ℕ} {k : ℕ} (load : Laid out n (reel_of_raw (take (last_at raw) raw)) o k) where
-    nulls_room : n + length (held_of raw held) ≤ length out → k + length (reel_of_raw (nulls_of held) ++ reel_of_raw (drop (last_at raw) raw)) ≤ length o
-    unfolding held_of
-    nulls_room h = room_rest out n (reel_of_raw (take (last_at raw) raw)) _ load h
+  module _ (out : List ℕ) (room : length (held_of raw held) ≤ length out) where
+    pub held_all : length ((loaded ++ waited) ++ shown) ≤ length out
+    held_all = rw held_parts room
 
-    pub held_nulls : n + length (held_of raw held) ≤ length out → k + length (reel_of_raw (nulls_of held)) ≤ length o
-    held_nulls h = room_front o k (reel_of_raw (nulls_of held)) _ (nulls_room h)
+    pub held_two : length (loaded ++ waited) ≤ length out
+    held_two = room_front out (loaded ++ waited) shown held_all
 
-    module _ {p : List ℕ} {m : ℕ} (wait : Laid o k (reel_of_raw (nulls_of held)) p m) where
-      pub held_last : n + length (held_of raw held) ≤ length out → m + length (reel_of_raw (drop (last_at raw) raw)) ≤ length p
-      held_last h = room_rest o k (reel_of_raw (nulls_of held)) _ wait (nulls_room h)
-
-      pub held_all : {left : List ℕ} {r : ℕ} → Laid p m (reel_of_raw (drop (last_at raw) raw)) left r → Laid out n (held_of raw held) left r
-      unfolding held_of
-      held_all l = laid_then load (laid_then wait l)
+    pub held_laid : {o left : List ℕ} {n m : ℕ} → Laid out (loaded ++ waited) o n → Laid (tail_of o n) shown left m → Laid out (held_of raw held) (put_mid n (length o - n) o left) (n + m)
+    held_laid p q = rw held_parts at (laid_then out (loaded ++ waited) shown held_all p q)
 
 -- Whole pairs that end in two more.
 pub held_of_then : (load last : List ℕ) (held : ℕ) → Pairs load → length last ≡ 4 → held_of (load ++ last) held ≡ reel_of_raw (load ++ (nulls_of held ++ last))

@@ -50,6 +50,7 @@ pub fn fail(err: &impl Print, what: &[u8], error: io::Error) {
     print(err, b"\n");
 }
 
+// What is read into stays as it is: a buffer of fixed size that the program lends, since nothing here lies on a heap.
 // Read after read, until the input ends, the buffer is full or a read fails.
 pub fn read_all<R: Input>(rt: &R, into: &mut [u8]) -> Result<usize, Cut>
     ensures { MatchResult result (λ n. n ≤ length into.old) (λ cut. cut.n ≤ length into.old) }

@@ -1,2 +1,2 @@
--- The definitions of `items`: what a function that writes behind the first bytes of a buffer promises.
+-- The definitions of `items`: what a function that writes at the front of a lent buffer promises.
 pub mod Laid

@@ -1,12 +1,9 @@
-// One item of a tape: what comes next by the cells of a row, a row's preamble, and the raw bytes of an item behind what a buffer holds already.
-// A buffer with how much of it is laid stays as it is: (d) texts of any length stand one behind the other here, and a call that were lent the rest alone would
-// give back its own length, to be added at each call to what was laid before, where `n` says both.
+// One item of a tape: what comes next by the cells of a row, a row's preamble, and the raw bytes of an item at the front of a lent buffer.
 #![tactic(auto)]
 
 mod rows;
 
-ghost use Rattle.std.specs.Prelude.{◌≡◌, [], ◌∷◌, ◌+◌, ◌<◌, ◌≤◌, length};
-ghost use Rattle.facts.specs.Over.{over};
+ghost use Rattle.std.specs.Prelude.{◌≡◌, ◌+◌, ◌<◌, ◌≤◌, length};
 ghost use Rattle.tape.specs.Channel.{number_of_channel};
 ghost use Rattle.tape.specs.Item.{gap_of, next_item_of, bytes_of};
 ghost use Rattle.tape.specs.Preamble.{style_of, indent_of, preamble_item_of};
@@ -40,29 +37,20 @@ pub const EDM: Item = Item {
     columns: 0,
 };
 
-// Two bytes behind the first `n` of a buffer.
-fn put_pair(out: &mut [u8], n: usize, a: u8, b: u8)
-    requires { n + 2 ≤ length out.old }
-    ensures { out.new ≡ over out.old n (a ∷ b ∷ []) }
-{
-    out[n] = a;
-    out[n + 1] = b;
-}
-
-// The bytes of an item behind the first `n` of a buffer: a control pair twice, characters once. Gives where they end.
-pub fn put_item(out: &mut [u8], n: usize, channel: Channel, item: Item) -> usize
-    requires { n + length (bytes_of (number_of_channel channel) item) ≤ length out.old }
-    ensures { Laid out.old n (bytes_of (number_of_channel channel) item) out.new result }
+// The bytes of an item at the front of a buffer: a control pair twice, characters once. Gives how many they are.
+#[tactic(auto, unfolding(tape::specs::Item::bytes_of))]
+pub fn put_item(out: &mut [u8], channel: Channel, item: Item) -> usize
+    requires { length (bytes_of (number_of_channel channel) item) ≤ length out.old }
+    ensures { Laid out.old (bytes_of (number_of_channel channel) item) out.new result }
 {
     let b = wire::sent(item.second);
     if item.first < 0x20 {
         let a = wire::sent(item.first + channel.offset());
-        put_pair(out, n, a, b);
-        put_pair(out, n + 2, a, b);
-        return n + 4;
+        facts::copy(out, &[a, b, a, b]);
+        return 4;
     }
-    put_pair(out, n, wire::sent(item.first), b);
-    n + 2
+    facts::copy(out, &[wire::sent(item.first), b]);
+    2
 }
 
 // How far a tab leads over an empty cell and the empty ones behind it.

@@ -40,8 +40,9 @@ fn row_text(row: Row) -> [u8; 3]
     [digit(number / 10), digit(number), b' ']
 }
 
-// A row goes in as a screen and the place where it starts, which stays as it is: `writer` and `writable` read rows of a memory at places
-// that `cell` gives, and the laws of tapes speak of `lead_of` and `end_of` at such places.
+// A row goes in as a screen and the place where it starts, which stays as it is: as 64 bytes each caller would cut it out of its memory first, and the laws of tapes
+// and of the register, which speak of `lead_of` and `end_of` at places of the whole, would have to bring it back there. That 32 and 0 stand for a row with no
+// cell stays as it is too: they are counts of cells, as `lead_of` and `end_of` are.
 
 // How many cells of the row that starts at `at` stand before its first non-empty one.
 pub fn lead(screen: &[u8], at: usize) -> usize

@@ -82,7 +82,7 @@ pub fn loikrasun_row(desk: &[u8], row: u8) -> u32
     pack_answer(desk::row(desk, row))
 }
 
-// What the view hands back, copied over `out`; on refusal that is an empty part, and `out` stays as it is.
+// What the view hands back, copied over `out`; on refusal that is an empty part, and `out` keeps its bytes.
 pub fn loikrasun_view(desk: &[u8], out: &mut [u8]) -> u32
     ensures { filled result out.new ≡ viewed_of desk.now out.old }
 {

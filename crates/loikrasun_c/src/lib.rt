@@ -1,4 +1,5 @@
 // The exports for C: each is the function of `loikrasun` that has its name. A slice passes as pointer and length.
+// Each of the nine stays as it is: a function of its own beside that of `loikrasun`, since C calls it by this name.
 #![tactic(auto)]
 
 ghost use Rattle.std.specs.Prelude.{◌≡◌};

@@ -9,6 +9,7 @@ ghost use Rattle.record.specs.Layout.{low_first_of, cursor_at, fields_of, counts
 use cell::{Column, Cursor, Row};
 use state::{Mode, State};
 
+// A cursor of the record, by its place, which stays as it is: `cursor_at` names the places of the whole.
 fn read_cursor(bytes: &[u8], at: usize) -> Cursor
     requires { at + 3 ≤ length bytes.now }
     ensures { result ≡ cursor_at bytes.now at }
@@ -28,8 +29,8 @@ fn low_first(low: u8, high: u8) -> u16
 }
 
 // The state, from bytes 0 to 18. What it gives stays as it is: numbers, and no Result, since the clause `state_of` says what any 1,984 bytes
-// give; `valid::is_valid_state` refuses those of no desk. The clause on the length stays as it is: a record is a slice that is lent or a part
-// of one, and `&[u8; 1984]` would have each caller convert it, by a call that can fail.
+// give; `valid::is_valid_state` refuses those of no desk. The clause on the length stays as it is: of the desk it is known behind
+// `is_valid` alone, which takes any slice, and of a slot it is a part of the tray; an array of either would be had by one more call that can fail.
 pub fn read_state(bytes: &[u8]) -> State
     requires { length bytes.now ≡ 1984 }
     ensures { result ≡ state_of bytes.now }

@@ -109,10 +109,6 @@ reach_stopped script k n first p {wrong} l d =
       goes = goes_at (ap (λ (m : Made). m.last) stays) goes;
     }
 
-pub length-blank : {screen : List ℕ} → screen ≡ blank → length screen ≡ 960
-unfolding blank
-length-blank e = ap length e
-
 -- The end.
 
 -- a screen still to be shown is shown

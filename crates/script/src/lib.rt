@@ -28,20 +28,21 @@ pub struct Reached {
     pub wrong: Option<Wrong>,
 }
 
-// The step from byte `at` on.
+// The step from byte `at` on. The place beside the script stays as it is: `step_at` names the steps of the whole by their places. So does the kind, a byte of
+// what is lent: any byte can stand there, and all but five are no step.
 fn step(
     hand: Hand,
-    screen: &mut [u8],
+    screen: &mut [u8; 960],
     out: &mut [u8],
     script: &[u8],
     at: usize,
 ) -> Result<Hand, Wrong>
-    requires { Fit hand × (length screen.old ≡ 960) × (length out.old ≡ 80000) × (at + 40 ≤ length script.now) }
+    requires { Fit hand × (length out.old ≡ 80000) × (at + 40 ≤ length script.now) }
     ensures fit { IfOk result (λ next. Fit next) }
     ensures does { Does (λ t. step_of t (step_at script.now at)) hand screen.old out.old result screen.new out.new }
 {
     let count = script[at + 4] as usize;
-    let number = u16::from_le_bytes([script[at + 1], script[at + 2]]) as usize;
+    let number = u16::from_le_bytes([script[at + 1], script[at + 2]]);
     match script[at] {
         1 if count <= 32 => {
             let from = at + 8;
@@ -57,13 +58,13 @@ fn step(
         2 => cues::show(hand, screen, out, number),
         3 => cues::clear(hand, out, number),
         4 => cues::wait(hand, out, number),
-        5 => hand.switch(number),
+        5 => hand.switch(number as usize),
         _ => Err(Wrong::Invalid),
     }
 }
 
 // All steps up to the first that is wrong, from an empty screen on channel 1.
-fn reach(script: &[u8], screen: &mut [u8], out: &mut [u8]) -> Reached
+fn reach(script: &[u8], screen: &mut [u8; 960], out: &mut [u8]) -> Reached
     requires { (screen.old ≡ blank) × (length out.old ≡ 80000) }
     ensures fit { Fit result.hand }
     ensures kept { result.kept ≡ (reached_of script.now (length script.now / size)).kept }
@@ -95,8 +96,8 @@ fn reach(script: &[u8], screen: &mut [u8], out: &mut [u8]) -> Reached
 }
 
 // A screen still to be shown at the end is shown.
-fn show_last(reached: Reached, screen: &mut [u8], out: &mut [u8]) -> Reached
-    requires { Fit reached.hand × (length screen.old ≡ 960) × (length out.old ≡ 80000) }
+fn show_last(reached: Reached, screen: &mut [u8; 960], out: &mut [u8]) -> Reached
+    requires { Fit reached.hand × (length out.old ≡ 80000) }
     ensures fit { Fit result.hand }
     ensures kept { result.kept ≡ reached.kept }
     ensures goes { (w : Went) (first : List ℕ) → Goes w reached.hand reached.wrong screen.old first out.old
@@ -115,6 +116,8 @@ fn show_last(reached: Reached, screen: &mut [u8], out: &mut [u8]) -> Reached
     reached
 }
 
+// The buffer of a reel stays as it is: a slice with its length in each clause, since `make` is a call that takes any, and what it lends on as an array would be
+// a part of it, by whose end the proof would have to come back to the whole.
 // The reel of a script at the front of a buffer of 80,000 bytes, whose other bytes stay; where a step is wrong, of the steps before it.
 #[tactic(auto, unfolding(crate::specs::Make::make_of, crate::specs::Script::made_of, crate::specs::Script::script_reel_of))]
 pub fn make(script: &[u8], out: &mut [u8]) -> Made

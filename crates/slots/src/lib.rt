@@ -10,6 +10,9 @@ ghost use Rattle.replay.specs.Captions.{caption_decoder};
 
 use state::State;
 
+// A lent buffer stays as it is: a slice with its length in a clause. A call takes any, and `is_sized` tells which have their lengths; as an array of its length each
+// would be had by a call that can fail, once more.
+
 // Whether the three buffers have their lengths.
 pub fn is_sized(desk: usize, log: usize, tray: usize) -> bool
     ensures { result ≡ is_sized caption_decoder desk log tray }
@@ -25,9 +28,17 @@ pub fn keep(tray: &mut [u8], state: State, cells: &[u8])
     let acts = state.acts as usize;
     if acts % 1000 == 0 {
         let at = (acts / 1000 - 1) * 1984;
-        let end = at + 1984;
-        record::write(&mut tray[at..end], state, cells);
+        record::write(&mut tray[at..at + 1984], state, cells);
     }
+}
+
+// What slot s of the tray holds.
+fn slot(tray: &[u8], s: usize) -> &[u8]
+    requires { (1 ≤ s) × (s ≤ 16) × (length tray.now ≡ 31744) }
+    ensures { (result.now ≡ start_of caption_decoder tray.now s) × (length result.now ≡ 1984) }
+{
+    let at = (s - 1) * 1984;
+    &tray[at..at + 1984]
 }
 
 // Whether slot s is valid with its count; the fresh record always is.
@@ -38,11 +49,9 @@ pub fn is_start(tray: &[u8], s: usize) -> bool
     if s == 0 {
         return true;
     }
-    let at = (s - 1) * 1984;
-    let end = at + 1984;
-    let ok = valid::is_valid(&tray[at..end]);
-    let start = record::read_state(&tray[at..end]);
-    ok & ((start.acts as usize) == s * 1000)
+    let kept = slot(tray, s);
+    let start = record::read_state(kept);
+    valid::is_valid(kept) & ((start.acts as usize) == s * 1000)
 }
 
 // The fresh record.
@@ -63,7 +72,5 @@ pub fn write_start(desk: &mut [u8], tray: &[u8], s: usize)
         write_fresh(desk);
         return;
     }
-    let at = (s - 1) * 1984;
-    let end = at + 1984;
-    facts::copy(desk, &tray[at..end]);
+    desk.copy_from_slice(slot(tray, s));
 }

@@ -20,7 +20,8 @@ pub const POP_ON: u8 = 2;
 pub const PAINT_ON: u8 = 3;
 
 // What the codes change: style, Text, the roll-up mark and depth, and for each style a cursor with its pen.
-// What Text and mark hold, 0 or 1, stays as it is: a number, as a style. A record may say 2 of either (`state_of`), which is no bool.
+// What Text and mark hold, 0 or 1, and the depth, 0 for none, stays as it is: a number, as a style. A record may say 2 of Text, which is no bool, and 1 or 9 of the
+// depth (`state_of`).
 #[derive(Clone, Copy, Debug, PartialEq, Eq)]
 pub struct Mode {
     pub style: u8,
@@ -33,8 +34,8 @@ pub struct Mode {
 }
 
 // The whole state: the mode, and what the pair rules keep of the stream.
-// What the stream's channel, 0 for none, and the expected pair, 0 and 0 for none, hold stays as it is: the record's bytes. Any two bytes can be read
-// there (`state_of`), and are the same bytes written back (`fields_of`): taken for `None`, a pair 0 and 5 would come back as 0 and 0.
+// What is selected, the stream's channel, 0 for none, and the expected pair, 0 and 0 for none, stays as it is: the record's own bytes. `told`, `state_of` and
+// `fields_of` and the laws that a desk comes back (`state_of_record_of`, `desk_comes_back`) take each as the number that stands in the record, and any number can stand there.
 #[derive(Clone, Copy, Debug, PartialEq, Eq)]
 pub struct State {
     pub acts: u16,

@@ -6,15 +6,15 @@ use Prim.Native.Nat.{ℕ, ◌+◌, ◌*◌, ◌<◌, ◌≤◌}
 use native.Mathlib.Numerals.{add-one}
 use native.Mathlib.Omega.{arith}
 use lib.Dec.{leb}
-use lib.ListN.{length, get_or, set, drop, replicate}
+use lib.ListN.{length, get_or, set, drop}
 use lib.Seq.{drop-cons, drop-length}
 use borrow.Author.Tests.{leb-true, ne_eqb}
 use Rattle.std.specs.Prelude.{Ok, Err}
 use Rattle.facts.specs.Over.{over}
 use Rattle.facts.proofs.Choice.{and_left, and_right}
-use Rattle.facts.proofs.Over.{over_two, over_all}
+use Rattle.facts.proofs.Over.{over_two}
 use Rattle.tape.specs.Channel.{number_of_channel}
-use Rattle.items.proofs.LawsOfLaid.{Rest, rest_start, rest_turn, rest_stop}
+use Rattle.items.proofs.LawsOfLaid.{Rest, rest_start, rest_turn, rest_over}
 use Rattle.steps.specs.declared.Hand.{Hand}
 use Rattle.steps.specs.declared.Wrong.{Wrong}
 use Rattle.steps.specs.declared.Wrong.TheVariants.{WrongLength, NoSuch, TooManyFrames, Invalid, NotWritable, TooEarly, Unshown}
@@ -36,11 +36,11 @@ module _ (screen : List ℕ) (at pen : ℕ) (codes : List ℕ) where
 
   pub typed_more : {now : List ℕ} (i : ℕ) → i < length codes → Typed now i → Typed (set (set now (at + i * 2) (get_or codes i 0)) (at + i * 2 + 1) pen) (i + 1)
   typed_more {now} i h t =
-      rest_turn screen at (cells_of pen codes) (get_or codes i 0 ∷ pen ∷ []) (cells_of pen (drop (i + 1) codes)) t (cells_more i h)
-      (record { bytes = over_two now (at + i * 2) (get_or codes i 0) pen; next = omega arith })
+      rest_turn screen at (cells_of pen codes) (get_or codes i 0 ∷ pen ∷ []) (cells_of pen (drop (i + 1) codes)) t (cells_more i h) (omega arith)
+      (over_two now (at + i * 2) (get_or codes i 0) pen)
 
   pub typed_all : {now : List ℕ} {i : ℕ} → i ≡ length codes → Typed now i → now ≡ over screen at (cells_of pen codes)
-  typed_all {i = i} e t = (rest_stop screen at (cells_of pen codes) t (ap (cells_of pen) (ap (λ (k : ℕ). drop k codes) e ∙ drop-length codes))).bytes
+  typed_all {i = i} e t = rest_over screen at (cells_of pen codes) t (ap (cells_of pen) (ap (λ (k : ℕ). drop k codes) e ∙ drop-length codes))
 
 -- A place, and what a step of characters comes to.
 
@@ -92,21 +92,15 @@ module _ (h : Hand) (screen : List ℕ) (row column pen : ℕ) (codes : List ℕ
   puts : Take → Went
   puts t = put_of t row column pen codes
 
-  module _ {tried typed : List ℕ} (size : length screen ≡ 960) (place : is_place row column (length codes) ≡ true) (copied : tried ≡ over (replicate 960 0) 0 screen)
-      (put : typed ≡ typed_of tried row column pen codes) where
-    is_typed : typed ≡ typed_of screen row column pen codes
-    is_typed = put ∙ ap (λ (d : List ℕ). typed_of d row column pen codes) (copied ∙ over_all (replicate 960 0) screen (sym size))
-
+  module _ {typed : List ℕ} (place : is_place row column (length codes) ≡ true) (put : typed ≡ typed_of screen row column pen codes) where
     is_wrong : {wrong : ℕ} → wrong ≡ wrong_row_of typed (row_at row) → wrong ≡ wrong_row_of (typed_of screen row column pen codes) (row_at row)
-    is_wrong w = w ∙ ap (λ (d : List ℕ). wrong_row_of d (row_at row)) is_typed
+    is_wrong w = w ∙ ap (λ (d : List ℕ). wrong_row_of d (row_at row)) put
 
-    pub does_put : {back : List ℕ} → 0 ≡ wrong_row_of typed (row_at row) → length typed ≡ 960 → back ≡ over screen 0 typed
-        → (out : List ℕ) → Does (λ t. put_of t row column pen codes) h screen out (Ok (hand h.channel true h.frames)) back out
+    pub does_put : 0 ≡ wrong_row_of typed (row_at row) → (out : List ℕ) → Does (λ t. put_of t row column pen codes) h screen out (Ok (hand h.channel true h.frames)) typed out
     unfolding puts
-    does_put e l b out =
-        let shown = b ∙ over_all screen typed (size ∙ sym l) ∙ is_typed in
+    does_put e out =
         does_same puts h screen out refl
-        (λ cues n. put_kept (take_of h screen cues) row column pen codes place (sym (is_wrong e)) ∙ (λ i. went 0 0 (take (number_of_channel h.channel) true (sym shown i) cues)))
+        (λ cues n. put_kept (take_of h screen cues) row column pen codes place (sym (is_wrong e)) ∙ (λ i. went 0 0 (take (number_of_channel h.channel) true (sym put i) cues)))
 
     pub stops_put : {wrong : Wrong} → wrong_number_of wrong ≡ wrong_row_of typed (row_at row) → wrong_frame_of wrong ≡ 0 → (out : List ℕ) → Does (λ t. put_of t row column pen codes) h screen out (Err wrong) screen out
     unfolding puts

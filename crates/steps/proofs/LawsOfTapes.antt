@@ -17,6 +17,7 @@ use Rattle.tape.specs.Item.{eoc_item, bytes_of}
 use Rattle.tape.specs.Tape.{loading_of, tape_of}
 use Rattle.tape.specs.Programme.{Cue, programme_of}
 use Rattle.tape.proofs.LawsOfSizes.{length-tape_of}
+use Rattle.items.proofs.LawsOfLaid.{tail_of, tail_room}
 use Rattle.writer.specs.declared.Refusal.{Refusal}
 use Rattle.writer.specs.declared.Refusal.TheVariants.{WrongLength, NoSuch, Invalid, NotWritable}
 use Rattle.writer.specs.Write.{number_of_refusal, write_tape_of}
@@ -39,8 +40,8 @@ sized_tape memory channel =
 
 -- there is room for what is held up to frame 16,000
 pub cue_room : (raw : List ℕ) (held : ℕ) (new : List Cue) (frames : ℕ) (out : List ℕ) → Cued raw held new → frames + pairs_of raw + held ≤ 16000 → length out ≡ 80000
-    → frames * 5 + length (held_of raw held) ≤ length out
-cue_room raw held new frames out c h e = omega (arith, ap length c.lines ∙ length-reel_of_raw (programme_of new), c.count)
+    → length (held_of raw held) ≤ length (tail_of out (frames * 5))
+cue_room raw held new frames out c h e = tail_room out (frames * 5) _ (omega (arith, ap length c.lines ∙ length-reel_of_raw (programme_of new), c.count))
 
 -- The tape, or none.
 

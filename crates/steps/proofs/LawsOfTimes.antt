@@ -15,6 +15,7 @@ use Rattle.tape.specs.Tape.{tape_of}
 use Rattle.tape.specs.Channel.{number_of_channel}
 use Rattle.tape.specs.Programme.{Cue, show, clear, wait, nulls_of, programme_of}
 use Rattle.tape.proofs.LawsOfSizes.{pairs_of-nulls_of}
+use Rattle.items.proofs.LawsOfLaid.{tail_of, tail_room}
 use Rattle.frames.specs.Held.{held_of}
 use Rattle.steps.specs.declared.Hand.{Hand}
 use Rattle.steps.specs.declared.Wrong.{Wrong}
@@ -45,14 +46,14 @@ module _ (h : Hand) (screen raw : List ℕ) (frame : ℕ) (tape : raw ≡ tape_o
     pub load_end : h.frames + length raw / 2 + held ≤ 16000
     load_end = (plan_held h.frames (length raw / 2) frame e).1
 
-    pub load_room : (out : List ℕ) → length out ≡ 80000 → h.frames * 5 + length (held_of raw held) ≤ length out
+    pub load_room : (out : List ℕ) → length out ≡ 80000 → length (held_of raw held) ≤ length (tail_of out (h.frames * 5))
     load_room out size = let s = load_size.pairs in cue_room raw held (show screen (number_of_channel h.channel) held ∷ []) h.frames out load_cued (omega (arith, load_end)) size
 
-    pub load_kept : (out : List ℕ) → (are_cells screen && is_writable screen) ≡ true → {screen₁ out₁ : List ℕ} → length screen ≡ 960 → screen₁ ≡ replicate (length screen) 0
+    pub load_kept : (out : List ℕ) → (are_cells screen && is_writable screen) ≡ true → {screen₁ out₁ : List ℕ} → screen₁ ≡ replicate 960 0
         → out₁ ≡ over out (h.frames * 5) (held_of raw held) → Does (λ t. show_of t frame) h screen out (Ok (hand h.channel false (h.frames + length raw / 2 + held))) screen₁ out₁
     unfolding blank
-    load_kept out fit {screen₁} size b o =
-        let empty : blank ≡ screen₁ = ap (λ (n : ℕ). replicate n 0) (sym size) ∙ sym b in
+    load_kept out fit {screen₁} b o =
+        let empty : blank ≡ screen₁ = sym b in
         let s = load_size.pairs in
         does_cues (λ t. show_of t frame) h screen out (show screen (number_of_channel h.channel) held ∷ []) (omega (arith, load_cued.count)) (o ∙ ap (over out (h.frames * 5)) load_cued.lines)
         (λ cues n. show_kept (take_of h screen cues) frame fit (load_plan e cues n) ∙ (λ i. went 0 0 (take (number_of_channel h.channel) false (empty i) (cues ++ (show screen (number_of_channel h.channel) held ∷ [])))))
@@ -76,7 +77,7 @@ module _ (h : Hand) (frame : ℕ) where
       edm_pairs : pairs_of raw ≡ 2
       edm_pairs = ap pairs_of edm ∙ pairs_edm (number_of_channel h.channel)
 
-      pub clear_room : length out ≡ 80000 → h.frames * 5 + length (held_of raw held) ≤ length out
+      pub clear_room : length out ≡ 80000 → length (held_of raw held) ≤ length (tail_of out (h.frames * 5))
       clear_room size = let two = edm_pairs in cue_room raw held (wait held ∷ clear (number_of_channel h.channel) ∷ []) h.frames out edm_cued (omega (arith, clear_end)) size
 
       pub clear_goes : (screen : List ℕ) {r : Hand} {out₁ : List ℕ} → r ≡ hand h.channel h.drawn (h.frames + (2 + held))
@@ -91,8 +92,8 @@ module _ (h : Hand) (frame : ℕ) where
   clear_stopped screen out e = does_stopped (λ t. clear_of t frame) h screen out (λ cues n. clear_wrong (take_of h screen cues) frame (edm_plan e cues n))
 
 module _ (h : Hand) (count : ℕ) (out : List ℕ) where
-  pub wait_room : length out ≡ 80000 → h.frames + count ≤ 16000 → h.frames * 5 + length (reel_of_raw (nulls_of count)) ≤ length out
-  wait_room size l = omega (arith, length-reel_of_raw (nulls_of count), pairs_of-nulls_of count)
+  pub wait_room : length out ≡ 80000 → h.frames + count ≤ 16000 → length (reel_of_raw (nulls_of count)) ≤ length (tail_of out (h.frames * 5))
+  wait_room size l = tail_room out (h.frames * 5) _ (omega (arith, length-reel_of_raw (nulls_of count), pairs_of-nulls_of count))
 
   pub wait_goes : (screen : List ℕ) {r : Hand} {out₁ : List ℕ} → h.frames + count ≤ 16000 → r ≡ hand h.channel h.drawn (h.frames + count)
       → out₁ ≡ over out (h.frames * 5) (reel_of_raw (nulls_of count)) → Does (λ t. wait_of t count) h screen out (Ok r) screen out₁

@@ -26,7 +26,7 @@ fn put_cells(screen: &mut [u8], at: usize, pen: u8, codes: &[u8])
     }
 }
 
-// What is wrong with the row that starts at `at`, if anything.
+// What is wrong with the row that starts at `at`, if anything. The place beside the screen stays as it is, as in the tests of a row that it asks.
 #[tactic(auto, unfolding(crate::specs::Take::wrong_row_of))]
 fn wrong_row(screen: &[u8], at: usize) -> Result<(), Wrong>
     requires { at + 64 ≤ length screen.now }
@@ -44,8 +44,8 @@ fn wrong_row(screen: &[u8], at: usize) -> Result<(), Wrong>
 
 // Characters into a row, and what is wrong with the row then.
 #[tactic(auto, unfolding(crate::specs::Take::typed_of))]
-fn put_row(screen: &mut [u8], row: u8, column: u8, pen: u8, codes: &[u8]) -> Result<(), Wrong>
-    requires { (is_place row column (length codes.now) ≡ true) × (length screen.old ≡ 960) }
+fn put_row(screen: &mut [u8; 960], row: u8, column: u8, pen: u8, codes: &[u8]) -> Result<(), Wrong>
+    requires { is_place row column (length codes.now) ≡ true }
     ensures typed { screen.new ≡ typed_of screen.old row column pen codes.now }
     ensures wrong { number_of_wrong (wrong_of result) ≡ wrong_row_of screen.new (row_at row) }
     ensures earliest { earliest_of (wrong_of result) ≡ 0 }
@@ -58,23 +58,22 @@ fn put_row(screen: &mut [u8], row: u8, column: u8, pen: u8, codes: &[u8]) -> Res
 // Types characters where nothing is wrong then: the screen is tried on a copy.
 pub fn put(
     hand: Hand,
-    screen: &mut [u8],
+    screen: &mut [u8; 960],
     row: u8,
     column: u8,
     pen: u8,
     codes: &[u8],
 ) -> Result<Hand, Wrong>
-    requires { Fit hand × (length screen.old ≡ 960) × (length codes.now ≤ 32) }
+    requires { Fit hand × (length codes.now ≤ 32) }
     ensures fit { IfOk result (λ next. Fit next) }
     ensures does { (out : List ℕ) → Does (λ t. put_of t row column pen codes.now) hand screen.old out result screen.new out }
 {
     if !is_place(row, column, codes.len()) {
         return Err(Wrong::NoSuch);
     }
-    let mut tried = [0u8; 960];
-    facts::copy(&mut tried, screen);
+    let mut tried = *screen;
     put_row(&mut tried, row, column, pen, codes)?;
-    facts::copy(screen, &tried);
+    *screen = tried;
     Ok(Hand {
         drawn: true,
         ..hand

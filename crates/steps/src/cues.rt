@@ -8,12 +8,14 @@ ghost use Rattle.steps.specs.Hand.{Fit, Does, plan_of};
 
 use crate::{Hand, Wrong};
 
+// Frame 0 stays as it is: no frame is asked for, as the two bytes of a step say it (`is_kept`, `step_at`).
 // How long a cue of so many pairs is held so that its last pair but one comes at a frame, or why it cannot be.
 #[tactic(auto, unfolding(crate::specs::Hand::plan_of))]
-fn plan(frames: usize, pairs: usize, frame: usize) -> Result<usize, Wrong>
-    requires { (frames ≤ 16000) × (1 ≤ pairs) × (pairs ≤ 16000) × (frame < 65536) }
+fn plan(frames: usize, pairs: usize, frame: u16) -> Result<usize, Wrong>
+    requires { (frames ≤ 16000) × (1 ≤ pairs) × (pairs ≤ 16000) }
     ensures { result ≡ plan_of frames pairs frame }
 {
+    let frame = frame as usize;
     let earliest = frames + pairs - 1;
     let held = frame.saturating_sub(earliest);
     if frame != 0 && frame < earliest {
@@ -28,12 +30,12 @@ fn plan(frames: usize, pairs: usize, frame: usize) -> Result<usize, Wrong>
 // The screen's tape, held up to its frame; then an empty screen is typed on.
 fn load(
     hand: Hand,
-    screen: &mut [u8],
+    screen: &mut [u8; 960],
     out: &mut [u8],
     raw: &[u8],
-    frame: usize,
+    frame: u16,
 ) -> Result<Hand, Wrong>
-    requires { Fit hand × (length screen.old ≡ 960) × (length out.old ≡ 80000) × (frame < 65536)
+    requires { Fit hand × (length out.old ≡ 80000)
         × (raw.now ≡ tape_of screen.old (number_of_channel hand.channel)) × ((are_cells screen.old && is_writable screen.old) ≡ true) }
     ensures fit { IfOk result (λ next. Fit next) }
     ensures does { Does (λ t. show_of t frame) hand screen.old out.old result screen.new out.new }
@@ -41,8 +43,8 @@ fn load(
     let frames = hand.frames;
     let pairs = raw.len() / 2;
     let held = plan(frames, pairs, frame)?;
-    frames::put_held(out, frames * 5, raw, held);
-    facts::blank(screen);
+    frames::put_held(&mut out[frames * 5..], raw, held);
+    *screen = [0; 960];
     Ok(Hand {
         drawn: false,
         frames: frames + pairs + held,
@@ -51,8 +53,8 @@ fn load(
 }
 
 // Shows the screen from a frame on, or as soon as it is loaded.
-pub fn show(hand: Hand, screen: &mut [u8], out: &mut [u8], frame: usize) -> Result<Hand, Wrong>
-    requires { Fit hand × (length screen.old ≡ 960) × (length out.old ≡ 80000) × (frame < 65536) }
+pub fn show(hand: Hand, screen: &mut [u8; 960], out: &mut [u8], frame: u16) -> Result<Hand, Wrong>
+    requires { Fit hand × (length out.old ≡ 80000) }
     ensures fit { IfOk result (λ next. Fit next) }
     ensures does { Does (λ t. show_of t frame) hand screen.old out.old result screen.new out.new }
 {
@@ -64,29 +66,30 @@ pub fn show(hand: Hand, screen: &mut [u8], out: &mut [u8], frame: usize) -> Resu
 }
 
 // Clears the display from a frame on, or at once.
-pub fn clear(hand: Hand, out: &mut [u8], frame: usize) -> Result<Hand, Wrong>
-    requires { Fit hand × (length out.old ≡ 80000) × (frame < 65536) }
+pub fn clear(hand: Hand, out: &mut [u8], frame: u16) -> Result<Hand, Wrong>
+    requires { Fit hand × (length out.old ≡ 80000) }
     ensures fit { IfOk result (λ next. Fit next) }
     ensures does { (screen : List ℕ) → Does (λ t. clear_of t frame) hand screen out.old result screen out.new }
 {
     let frames = hand.frames;
     let held = plan(frames, 2, frame)?;
     let mut raw = [0u8; 4];
-    items::put_item(&mut raw, 0, hand.channel, items::EDM);
-    frames::put_held(out, frames * 5, &raw, held);
+    items::put_item(&mut raw, hand.channel, items::EDM);
+    frames::put_held(&mut out[frames * 5..], &raw, held);
     Ok(hand.further(2 + held))
 }
 
 // So many frames of nothing.
-pub fn wait(hand: Hand, out: &mut [u8], count: usize) -> Result<Hand, Wrong>
-    requires { Fit hand × (length out.old ≡ 80000) × (count < 65536) }
+pub fn wait(hand: Hand, out: &mut [u8], count: u16) -> Result<Hand, Wrong>
+    requires { Fit hand × (length out.old ≡ 80000) }
     ensures fit { IfOk result (λ next. Fit next) }
     ensures does { (screen : List ℕ) → Does (λ t. wait_of t count) hand screen out.old result screen out.new }
 {
     let frames = hand.frames;
+    let count = count as usize;
     if 16000 < frames + count {
         return Err(Wrong::TooManyFrames);
     }
-    frames::put_nulls(out, frames * 5, count);
+    frames::put_nulls(&mut out[frames * 5..], count);
     Ok(hand.further(count))
 }

@@ -45,6 +45,7 @@ impl From<Wrong> for u8 {
     }
 }
 
+// That a hand has at most 16,000 frames, `Fit`, stays as it is: a clause, since the definitions and laws of a take (`hand`, `Stands`) build hands of any number.
 // What is in hand between two steps: the channel that is written for, whether a screen is still to be shown, and how many frames there are.
 #[derive(Clone, Copy, Debug, PartialEq, Eq)]
 pub struct Hand {
@@ -74,6 +75,7 @@ impl Hand {
         if self.drawn {
             return Err(Wrong::Unshown);
         }
+        // Two bytes say the number, and `Channel::try_from` takes one: this stays as it is, since 257 is no channel.
         let channel = match number {
             1 => Channel::One,
             2 => Channel::Two,

@@ -46,7 +46,7 @@ fn plain(byte: u8) -> Option<u8> {
 // What stands between braces: two digits 0-9 A-F that are the code of a character, or a name.
 fn braced(name: &[u8]) -> Option<u8> {
     match name {
-        [high, low] => words::hex(*high, *low).filter(
+        [high, low] => wire::byte(*high, *low).filter(
             |code| matches!(*code, 0x20..=0x7f | 0x90..=0x9f),
         ),
         _ => words::named(&NAMES, name),

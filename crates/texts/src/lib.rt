@@ -65,6 +65,7 @@ fn start(kind: Kind, number: [u8; 2], pen: u8, line: usize) -> [u8; SIZE] {
     step
 }
 
+// That 0 stands for no number stays as it is: so it stands in the two bytes of a step.
 // The one number behind a word: 0 where nothing stands there, and none where what does is a 0, no number of two bytes, or more than that.
 fn number_behind(rest: &[u8]) -> Option<u16> {
     let (word, rest) = words::next(rest);
@@ -112,8 +113,13 @@ fn step(text: &[u8], line: usize) -> Result<[u8; SIZE], Wrong> {
 }
 
 // The step of a line behind those that there are; gives how many there are then.
-fn add_step(text: &[u8], line: usize, script: &mut [u8], steps: usize) -> Result<usize, Wrong>
-    requires { (length script.old ≡ 327680) × (steps ≤ 8192) }
+fn add_step(
+    text: &[u8],
+    line: usize,
+    script: &mut [u8; 327680],
+    steps: usize,
+) -> Result<usize, Wrong>
+    requires { steps ≤ 8192 }
     ensures { IfOk result (λ n. n ≤ 8192) }
 {
     if steps == MOST {
@@ -126,8 +132,7 @@ fn add_step(text: &[u8], line: usize, script: &mut [u8], steps: usize) -> Result
 }
 
 // Line after line, up to the first that is no step. A CR at a line's end is no part of it.
-pub fn read(text: &[u8], script: &mut [u8]) -> Reading
-    requires { length script.old ≡ 327680 }
+pub fn read(text: &[u8], script: &mut [u8; 327680]) -> Reading
     ensures { result.steps ≤ 8192 }
 {
     let mut steps = 0;

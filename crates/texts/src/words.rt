@@ -37,24 +37,6 @@ pub fn number(word: &[u8]) -> Option<u32>
     digits.parse().ok()
 }
 
-// A digit 0-9 A-F.
-fn digit(byte: u8) -> Option<u8>
-    ensures { IfSome result (λ digit. digit < 16) }
-{
-    match byte {
-        b'0'..=b'9' => Some(byte - b'0'),
-        b'A'..=b'F' => Some(byte - b'A' + 10),
-        _ => None,
-    }
-}
-
-// The byte of two digits 0-9 A-F.
-pub fn hex(high: u8, low: u8) -> Option<u8> {
-    let high = digit(high)?;
-    let low = digit(low)?;
-    Some(high * 16 + low)
-}
-
 // What a table says of a name.
 pub fn named<T: Copy>(table: &[(&[u8], T)], name: &[u8]) -> Option<T> {
     table

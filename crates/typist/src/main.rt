@@ -50,9 +50,12 @@ fn print<O: Print, E: Print>(out: &O, err: &E, script: &[u8], reading: Reading) 
 }
 
 // The reel of a text, by way of its script.
-fn play<O: Print, E: Print>(out: &O, err: &E, text: &[u8], script: &mut [u8]) -> io::Result<usize>
-    requires { length script.old ≡ 327680 }
-{
+fn play<O: Print, E: Print>(
+    out: &O,
+    err: &E,
+    text: &[u8],
+    script: &mut [u8; 327680],
+) -> io::Result<usize> {
     let reading = texts::read(text, script);
     print(out, err, &script[..reading.steps * texts::SIZE], reading)
 }

@@ -38,7 +38,8 @@ fn is_valid_state(state: State) -> bool
         & ((mode.style != state::PAINT_ON) | (mode.mark == 0))
 }
 
-// A row. Most are empty, and 64 bytes that are 0 are told at once; any other is tested cell by cell, as one flag with no way out.
+// A row, by the place where it starts, which stays as it is: the definitions of rows and records (`is_row`, `are_rows`) name the places of the whole.
+// Most are empty, and 64 bytes that are 0 are told at once; any other is tested cell by cell, as one flag with no way out.
 pub fn is_row(bytes: &[u8], at: usize) -> bool
     requires { at + 64 ≤ length bytes.now }
     ensures { result ≡ is_row bytes.now at }

@@ -101,7 +101,8 @@ pub fn show(
     }
 }
 
-// The refusal of what stands behind the last good frame, where the reel does not end there. Gives how many bytes it is.
+// The refusal of what stands behind the last good frame, where the reel does not end there. Gives how many bytes it is. The number stays as it is, 3 or 5: it is printed
+// and not handed on, and `refusal_of` prints it.
 fn put_refusal(out: &mut [u8], size: usize, frame: usize) -> usize
     requires { (16 ≤ length out.old) × (frame ≤ most) }
     ensures { Put out.old (refusal_of size frame) 16 out.new result }

@@ -7,8 +7,8 @@ ghost use Rattle.window.specs.Window.{above_of, lowered_of, roll_of, empty_outsi
 
 use cell::{Cursor, Row};
 
-// A window stays as it is: a base row and a depth beside each other, since a type of the windows that fit would be narrower than what `roll`,
-// `empty_outside` and `move_window` take, each of which asks for another fit.
+// A window stays as it is: a base row and a depth beside each other. A type of the windows that fit would say `depth ≤ base.0` alone: `roll` asks for a
+// depth of 1 besides, `move_window` for a fit at two base rows, and `valid` and `rollup` hold the two in a state, each in a field of its own.
 
 // How many rows lie above the window of a base row and a depth that fits there.
 pub fn rows_above(base: Row, depth: u8) -> usize

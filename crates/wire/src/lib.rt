@@ -9,7 +9,7 @@ ghost use Rattle.wire.specs.Written.{outcome, write_line_of};
 ghost use Rattle.wire.specs.Numbers.{reading_of, read_line_of, number_of_written, value_of_written};
 
 // What stands at a place of a reel: the two raw bytes of a frame, the reel's end, or what is no frame line. This enum stays as it is:
-// they are three answers of the paper, and an Option of a Result would name none of them.
+// `line_at`, the reader's laws and `read_line_only` speak of these three, and as a Result of an Option the reel's end and a bad line would have no name in them.
 #[derive(Clone, Copy, Debug, PartialEq, Eq)]
 pub enum Line {
     Pair(u8, u8),
@@ -57,7 +57,7 @@ pub fn sent(value: u8) -> u8
 
 // The value of a digit, 0-9 A-F.
 #[tactic(auto, using(crate::proofs::Tables::read_decimal, crate::proofs::Tables::read_letter, crate::proofs::Tables::read_below, crate::proofs::Tables::read_between, crate::proofs::Tables::read_above))]
-fn digit(byte: u8) -> Option<u8>
+pub fn digit(byte: u8) -> Option<u8>
     ensures { result ≡ pick (is_digit byte) (Some (digit_of byte)) None }
 {
     match byte {
@@ -79,7 +79,7 @@ pub fn hex(value: u8) -> u8
 }
 
 // The byte that two digits say, the high digit first.
-fn byte(high: u8, low: u8) -> Option<u8>
+pub fn byte(high: u8, low: u8) -> Option<u8>
     ensures { result ≡ pick (is_digit high && is_digit low) (Some (digit_of high * 16 + digit_of low)) None }
 {
     Some(digit(high)? * 16 + digit(low)?)
@@ -96,7 +96,8 @@ fn judge(line: &[u8; 5]) -> Line
     }
 }
 
-// The frame line that stands at place `at` of a reel. It reads five bytes and copies none.
+// The frame line that stands at place `at` of a reel. It reads five bytes and copies none. The place beside the reel stays as it is: a reader holds
+// the slice and its position, and `line_at` says what stands there.
 pub fn read_line(reel: &[u8], at: usize) -> Line
     ensures { (result ≡ line_at reel.now at) × (reading_of result ≡ read_line_of reel.now at) }
 {
@@ -109,7 +110,7 @@ pub fn read_line(reel: &[u8], at: usize) -> Line
     }
 }
 
-// The frame line of a pair into a buffer of five bytes; any other buffer stays as it is.
+// The frame line of a pair into a buffer of five bytes; any other buffer keeps its bytes.
 #[tactic(auto, using(crate::proofs::Lemmas::set_five), unfolding(crate::specs::Written::write_line_of, crate::specs::Line::line_of))]
 pub fn write_line(out: &mut [u8], first: u8, second: u8) -> Result<(), WrongLength>
     ensures { outcome (number_of_written result) (value_of_written result) out.new ≡ write_line_of out.old first second }

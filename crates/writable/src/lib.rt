@@ -7,13 +7,13 @@ ghost use Rattle.tape.specs.Writable.{are_cells, row_pen_of, is_steady, is_cell_
 use cell::Pen;
 
 // Whether every cell of a screen is one that a record may hold.
-pub fn are_cells(memory: &[u8]) -> bool
-    requires { length memory.now ≡ 960 }
+pub fn are_cells(memory: &[u8; 960]) -> bool
     ensures { result ≡ are_cells memory.now }
 {
     (0..15).all(|row| valid::is_row(memory, row * 64))
 }
 
+// A row's place in the memory stays as it is, for the reason that `lines` has; and that an empty row has a plain pen, since `row_pen_of` gives it one for its preamble.
 // The pen of the last non-empty cell of the row that starts at `at`; plain where there is none.
 #[tactic(auto, unfolding(tape::specs::Writable::row_pen_of))]
 pub fn row_pen(memory: &[u8], at: usize) -> u8
@@ -54,8 +54,7 @@ pub fn is_row_writable(memory: &[u8], at: usize) -> bool
 }
 
 // Whether a screen can be written.
-pub fn is_writable(memory: &[u8]) -> bool
-    requires { length memory.now ≡ 960 }
+pub fn is_writable(memory: &[u8; 960]) -> bool
     ensures { result ≡ is_writable memory.now }
 {
     (0..15).all(|row| is_row_writable(memory, row * 64))

@@ -6,6 +6,7 @@ use native.Mathlib.Numerals.{add-one}
 use native.Mathlib.Omega.{arith}
 use lib.ListN.{length, length-append}
 use borrow.Author.Tests.{eq-eqb, ne_eqb, lt-ltb, le-ltb}
+use borrow.Rule.Slice.PartMut.{put_mid}
 use Rattle.facts.proofs.Choice.{below_cases}
 use Rattle.record.specs.Layout.{code_at}
 use Rattle.lines.specs.Span.{lead_of, end_of}
@@ -17,7 +18,7 @@ use Rattle.tape.specs.Writable.{row_pen_of}
 use Rattle.tape.specs.Tape.{code_before, item_at, rest_of, filled_row_of, row_tape_of, rows_tape_of, loading_of, tape_of}
 use Rattle.tape.proofs.LawsOfSizes.{next_item_of_columns, rest_more}
 use Rattle.items.specs.Laid.{Laid}
-use Rattle.items.proofs.LawsOfLaid.{laid_then}
+use Rattle.items.proofs.LawsOfLaid.{tail_of, laid_then}
 
 -- The items of a row.
 
@@ -77,10 +78,6 @@ module _ (channel : ℕ) (memory : List ℕ) where
   unfolding rows_tape_of
   rows-one_more row = ap (rows_tape_of channel memory) (sym (add-one row))
 
-  pub rows_more : (row : ℕ) {out o left : List ℕ} {n m k : ℕ} → Laid out n (rows_tape_of channel memory row) o m → Laid o m (row_tape_of channel memory row) left k
-      → Laid out n (rows_tape_of channel memory (row + 1)) left k
-  rows_more row p q = rw (rows-one_more row) at (laid_then p q)
-
   -- the first rows have no more bytes than all
   rows_grow : (row n : ℕ) → row ≤ n → length (rows_tape_of channel memory row) ≤ length (rows_tape_of channel memory n)
   unfolding rows_tape_of
@@ -88,9 +85,13 @@ module _ (channel : ℕ) (memory : List ℕ) where
   rows_grow row (suc n) h =
       below_cases row (suc n) (λ g. simp length-append (omega (arith, rows_grow row n (omega arith)))) (λ g. let e : row ≡ suc n = omega arith in rw e (omega arith))
 
-  pub rows-room : (row n most : ℕ) → row < 15 → n + length (rows_tape_of channel memory 15) ≤ most
-      → n + length (rows_tape_of channel memory row ++ row_tape_of channel memory row) ≤ most
-  rows-room row n most h r = rw (rows-one_more row) (omega (arith, rows_grow (row + 1) 15 (omega arith)))
+  module _ (out : List ℕ) (row : ℕ) (h : row < 15) (room : length (rows_tape_of channel memory 15) ≤ length out) where
+    pub rows-room : length (rows_tape_of channel memory row ++ row_tape_of channel memory row) ≤ length out
+    rows-room = rw (rows-one_more row) (omega (arith, rows_grow (row + 1) 15 (omega arith)))
+
+    pub rows_more : {o left : List ℕ} {n k : ℕ} → Laid out (rows_tape_of channel memory row) o n → Laid (tail_of o n) (row_tape_of channel memory row) left k
+        → Laid out (rows_tape_of channel memory (row + 1)) (put_mid n (length o - n) o left) (n + k)
+    rows_more p q = rw (rows-one_more row) at (laid_then out _ _ rows-room p q)
 
 -- The whole tape.
 

@@ -35,6 +35,8 @@ impl From<Refusal> for u16 {
     }
 }
 
+// A row's place in the memory stays as it is, for the reason that `lines` has; and 80h behind a row's cells, since `next_item_of` and its laws take three codes and
+// no cell has 80h that is written.
 // The code of cell `k` of a row of `end` cells; behind them 80h stands, so that the next row is no part of this one.
 fn code_before(memory: &[u8], at: usize, end: usize, k: usize) -> u8
     requires { (at + 64 ≤ length memory.now) × (end ≤ 32) }
@@ -57,11 +59,10 @@ fn item_at(memory: &[u8], at: usize, end: usize, k: usize) -> Item
     items::next_item(code, next, after)
 }
 
-// The items of a row from cell `from` on, behind the first `n` bytes of a buffer.
-// The loop stays as it is: (d) an item leads on one to three columns by what it is, so that no range, slice or chunk is what it goes over.
+// The items of a row from cell `from` on, at the front of a buffer. Gives how many bytes they are.
+// The loop stays as it is: an item leads on one to three columns by what it is, so that no range, slice or chunk is what it goes over.
 fn put_rest(
     out: &mut [u8],
-    n: usize,
     channel: Channel,
     memory: &[u8],
     at: usize,
@@ -69,67 +70,65 @@ fn put_rest(
     from: usize,
 ) -> usize
     requires { (at + 64 ≤ length memory.now) × (end ≤ 32)
-        × (n + length (rest_of (number_of_channel channel) memory.now at end from) ≤ length out.old) }
-    ensures { Laid out.old n (rest_of (number_of_channel channel) memory.now at end from) out.new result }
+        × (length (rest_of (number_of_channel channel) memory.now at end from) ≤ length out.old) }
+    ensures { Laid out.old (rest_of (number_of_channel channel) memory.now at end from) out.new result }
 {
-    let mut m = n;
+    let mut n = 0;
     let mut k = from;
     while k < end {
         let item = item_at(memory, at, end, k);
-        m = items::put_item(out, m, channel, item);
+        n += items::put_item(&mut out[n..], channel, item);
         k += item.columns;
     }
-    m
+    n
 }
 
 // A row, counted from 0: nothing where it is empty, else its preamble and its cells up to the last non-empty one.
-fn put_row(out: &mut [u8], n: usize, channel: Channel, memory: &[u8], row: usize) -> usize
-    requires { (length memory.now ≡ 960) × (row < 15)
-        × (n + length (row_tape_of (number_of_channel channel) memory.now row) ≤ length out.old) }
-    ensures { Laid out.old n (row_tape_of (number_of_channel channel) memory.now row) out.new result }
+fn put_row(out: &mut [u8], channel: Channel, memory: &[u8; 960], row: usize) -> usize
+    requires { (row < 15)
+        × (length (row_tape_of (number_of_channel channel) memory.now row) ≤ length out.old) }
+    ensures { Laid out.old (row_tape_of (number_of_channel channel) memory.now row) out.new result }
 {
     let at = row * 64;
     let end = lines::end(memory, at);
     if end == 0 {
-        return n;
+        return 0;
     }
     let pen = writable::row_pen(memory, at);
     let item = items::preamble_item(row, pen, lines::lead(memory, at));
-    let m = items::put_item(out, n, channel, item);
-    put_rest(out, m, channel, memory, at, end, item.columns)
+    let n = items::put_item(out, channel, item);
+    n + put_rest(&mut out[n..], channel, memory, at, end, item.columns)
 }
 
 // All rows, from the top.
-fn put_rows(out: &mut [u8], n: usize, channel: Channel, memory: &[u8]) -> usize
-    requires { (length memory.now ≡ 960) × (n + length (rows_tape_of (number_of_channel channel) memory.now 15) ≤ length out.old) }
-    ensures { Laid out.old n (rows_tape_of (number_of_channel channel) memory.now 15) out.new result }
+fn put_rows(out: &mut [u8], channel: Channel, memory: &[u8; 960]) -> usize
+    requires { length (rows_tape_of (number_of_channel channel) memory.now 15) ≤ length out.old }
+    ensures { Laid out.old (rows_tape_of (number_of_channel channel) memory.now 15) out.new result }
 {
-    let mut m = n;
+    let mut n = 0;
     for row in 0..15 {
-        m = put_row(out, m, channel, memory, row);
+        n += put_row(&mut out[n..], channel, memory, row);
     }
-    m
+    n
 }
 
-// The whole tape, behind the first `n` bytes of a buffer.
-fn put_tape(out: &mut [u8], n: usize, channel: Channel, memory: &[u8]) -> usize
-    requires { (length memory.now ≡ 960) × (n + length (tape_of memory.now (number_of_channel channel)) ≤ length out.old) }
-    ensures { Laid out.old n (tape_of memory.now (number_of_channel channel)) out.new result }
+// The whole tape, at the front of a buffer.
+fn put_tape(out: &mut [u8], channel: Channel, memory: &[u8; 960]) -> usize
+    requires { length (tape_of memory.now (number_of_channel channel)) ≤ length out.old }
+    ensures { Laid out.old (tape_of memory.now (number_of_channel channel)) out.new result }
 {
-    let opened = items::put_item(out, n, channel, items::RCL);
-    let emptied = items::put_item(out, opened, channel, items::ENM);
-    let loaded = put_rows(out, emptied, channel, memory);
-    items::put_item(out, loaded, channel, items::EOC)
+    let mut n = items::put_item(out, channel, items::RCL);
+    n += items::put_item(&mut out[n..], channel, items::ENM);
+    n += put_rows(&mut out[n..], channel, memory);
+    n + items::put_item(&mut out[n..], channel, items::EOC)
 }
 
-// The tape of a screen of 960 bytes on a channel, into a buffer of 4,096, and how many bytes it has; the buffer's bytes past the pairs stay, and on a refusal all of them.
+// The tape of a screen on a channel, into a buffer of 4,096 bytes.
 #[tactic(auto, unfolding(crate::specs::Write::write_tape_of))]
-pub fn write_tape(memory: &[u8], channel: u8, out: &mut [u8]) -> Result<u16, Refusal>
+fn write_sized(memory: &[u8; 960], channel: u8, out: &mut [u8]) -> Result<u16, Refusal>
+    requires { length out.old ≡ 4096 }
     ensures { outcome (number_of_tape result) (value_of_tape result) out.new ≡ write_tape_of memory.now channel out.old }
 {
-    if memory.len() != 960 || out.len() != 4096 {
-        return Err(Refusal::WrongLength);
-    }
     if !writable::are_cells(memory) {
         return Err(Refusal::Invalid);
     }
@@ -139,5 +138,16 @@ pub fn write_tape(memory: &[u8], channel: u8, out: &mut [u8]) -> Result<u16, Ref
     if !writable::is_writable(memory) {
         return Err(Refusal::NotWritable);
     }
-    Ok(put_tape(out, 0, channel, memory) as u16)
+    Ok(put_tape(out, channel, memory) as u16)
+}
+
+// The tape of a screen of 960 bytes on a channel, into a buffer of 4,096, and how many bytes it has; the buffer's bytes past the pairs stay, and on a refusal all of them.
+#[tactic(auto, unfolding(crate::specs::Write::write_tape_of))]
+pub fn write_tape(memory: &[u8], channel: u8, out: &mut [u8]) -> Result<u16, Refusal>
+    ensures { outcome (number_of_tape result) (value_of_tape result) out.new ≡ write_tape_of memory.now channel out.old }
+{
+    match memory.as_array() {
+        Some(memory) if out.len() == 4096 => write_sized(memory, channel, out),
+        _ => Err(Refusal::WrongLength),
+    }
 }

@@ -6,4 +6,4 @@ use Rattle.items.proofs.LawsOfLaid.{Rest}
 use Rattle.frames.proofs.put_nulls.Given as goal
 
 abbrev pub invariant-loop : goal.invariant-loop
-invariant-loop l = Rest l.initial.out l.n (reel_of_raw (nulls_of l.count)) l.out l.m (reel_of_raw (nulls_of (l.count - l.counter)))
+invariant-loop l = Rest l.initial.out 0 (reel_of_raw (nulls_of l.count)) l.out l.n (reel_of_raw (nulls_of (l.count - l.counter)))

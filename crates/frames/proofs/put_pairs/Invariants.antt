@@ -7,4 +7,4 @@ use Rattle.frames.proofs.put_pairs.Given as goal
 
 abbrev pub invariant-loop-pair : goal.invariant-loop-pair
 invariant-loop-pair l =
-    (chunks_exact_size l.pair-iterator ≡ 2) × Rest l.initial.out l.n (reel_of_raw l.raw) l.out l.m (reel_of_raw (chunks_exact_rest l.pair-iterator))
+    (chunks_exact_size l.pair-iterator ≡ 2) × Rest l.initial.out 0 (reel_of_raw l.raw) l.out l.n (reel_of_raw (chunks_exact_rest l.pair-iterator))

@@ -6,4 +6,4 @@ use Rattle.script.proofs.reach.Given as goal
 
 abbrev pub invariant-loop-kept : goal.invariant-loop-kept
 invariant-loop-kept l =
-    (length l.screen ≡ length l.initial.screen) × (length l.out ≡ length l.initial.out) × Reaches l.script l.kept l.hand l.screen l.initial.out l.out
+    (length l.out ≡ length l.initial.out) × Reaches l.script l.kept l.hand l.screen l.initial.out l.out

@@ -2,7 +2,7 @@
 use mathlib.Core.List.{List}
 use mathlib.Core.Path.{ap, sym, ◌∙◌}
 use Prim.Native.Nat.{ℕ}
-use Rattle.standing.proofs.Within.{start_fresh, start_slot, is_start_of, is_start_fresh}
+use Rattle.standing.proofs.Within.{start_fresh, is_start_of, is_start_fresh}
 use Rattle.standing.specs.Calls.{is_start}
 use Rattle.state.specs.declared.State.{State}
 use Rattle.replay.specs.Captions.{caption_decoder}
@@ -18,5 +18,5 @@ returns-then-s-eq0 c =
 pub returns : goal.returns
 returns c =
     let a = c.args in
-    is_start_of caption_decoder _ a.s c.is_valid-ok.ensures (ap (λ (s : State). s.acts) c.read_state-start.ensures)
-    ∙ ap (λ (r : List ℕ). is_start caption_decoder r a.s) (start_slot caption_decoder a.tray.now a.s c.if-s-eq0.false)
+    is_start_of caption_decoder _ a.s c.is_valid.ensures (ap (λ (s : State). s.acts) c.read_state-start.ensures)
+    ∙ ap (λ (r : List ℕ). is_start caption_decoder r a.s) c.slot-kept.ensures.0

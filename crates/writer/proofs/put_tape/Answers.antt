@@ -1,7 +1,7 @@
 -- `put_tape` meets its contract. Assumes nothing.
 use mathlib.Core.Path.{sym}
 use mathlib.Core.List.{List, ◌++◌}
-use Prim.Native.Nat.{ℕ, ◌+◌, ◌≤◌}
+use Prim.Native.Nat.{ℕ, ◌≤◌}
 use lib.ListN.{length}
 use borrow.Author.Rules.{rules}
 use Rattle.tape.specs.Channel.{number_of_channel}
@@ -26,39 +26,42 @@ module _ (channel : ℕ) (memory : List ℕ) where
   eoc_bytes = bytes_of channel eoc_item
 
   -- there is room for all, for the three before EOC, and for the two before the rows
-  module _ (out : List ℕ) (n : ℕ) (room : n + length (tape_of memory channel) ≤ length out) where
-    all : n + length (((rcl_bytes ++ enm_bytes) ++ rows_bytes) ++ eoc_bytes) ≤ length out
+  module _ (out : List ℕ) (room : length (tape_of memory channel) ≤ length out) where
+    all : length (((rcl_bytes ++ enm_bytes) ++ rows_bytes) ++ eoc_bytes) ≤ length out
     all = rw (tape_parts channel memory) room
 
-    three : n + length ((rcl_bytes ++ enm_bytes) ++ rows_bytes) ≤ length out
-    three = room_front out n ((rcl_bytes ++ enm_bytes) ++ rows_bytes) eoc_bytes all
+    three : length ((rcl_bytes ++ enm_bytes) ++ rows_bytes) ≤ length out
+    three = room_front out ((rcl_bytes ++ enm_bytes) ++ rows_bytes) eoc_bytes all
 
-    two : n + length (rcl_bytes ++ enm_bytes) ≤ length out
-    two = room_front out n (rcl_bytes ++ enm_bytes) rows_bytes three
+    two : length (rcl_bytes ++ enm_bytes) ≤ length out
+    two = room_front out (rcl_bytes ++ enm_bytes) rows_bytes three
 
-pub put_item-opened-requires : goal.put_item-opened-requires
-put_item-opened-requires c =
+pub put_item-n-requires : goal.put_item-n-requires
+put_item-n-requires c =
     let a = c.args in
-    room_front a.out.now a.n _ _ (two (number_of_channel a.channel) a.memory.now a.out.now a.n c.requires.1)
+    room_front a.out.now _ _ (two (number_of_channel a.channel) a.memory.now a.out.now c.requires)
 
-pub put_item-emptied-requires : goal.put_item-emptied-requires
-put_item-emptied-requires c =
+pub put_item-n-requires-2 : goal.put_item-n-requires-2
+put_item-n-requires-2 c =
     let a = c.args in
-    room_rest a.out.now a.n _ _ c.put_item-opened.ensures (two (number_of_channel a.channel) a.memory.now a.out.now a.n c.requires.1)
+    room_rest a.out.now _ _ (two (number_of_channel a.channel) a.memory.now a.out.now c.requires) c.put_item-n.ensures
 
-pub put_rows-loaded-requires : goal.put_rows-loaded-requires
-put_rows-loaded-requires c =
+pub put_rows-n-requires : goal.put_rows-n-requires
+put_rows-n-requires c =
     let a = c.args in
-    let emptied = laid_then c.put_item-opened.ensures c.put_item-emptied.ensures in
-    (search rules, room_rest a.out.now a.n _ _ emptied (three (number_of_channel a.channel) a.memory.now a.out.now a.n c.requires.1))
+    let emptied = laid_then a.out.now _ _ (two (number_of_channel a.channel) a.memory.now a.out.now c.requires) c.put_item-n.ensures c.put_item-n-2.ensures in
+    room_rest a.out.now _ _ (three (number_of_channel a.channel) a.memory.now a.out.now c.requires) emptied
 
 pub put_item-requires : goal.put_item-requires
 put_item-requires c =
     let a = c.args in
-    let loaded = laid_then (laid_then c.put_item-opened.ensures c.put_item-emptied.ensures) c.put_rows-loaded.ensures in
-    room_rest a.out.now a.n _ _ loaded (all (number_of_channel a.channel) a.memory.now a.out.now a.n c.requires.1)
+    let emptied = laid_then a.out.now _ _ (two (number_of_channel a.channel) a.memory.now a.out.now c.requires) c.put_item-n.ensures c.put_item-n-2.ensures in
+    let loaded = laid_then a.out.now _ _ (three (number_of_channel a.channel) a.memory.now a.out.now c.requires) emptied c.put_rows-n.ensures in
+    room_rest a.out.now _ _ (all (number_of_channel a.channel) a.memory.now a.out.now c.requires) loaded
 
 pub returns : goal.returns
 returns c =
-    let loaded = laid_then (laid_then c.put_item-opened.ensures c.put_item-emptied.ensures) c.put_rows-loaded.ensures in
-    rw (sym (tape_parts (number_of_channel c.args.channel) c.args.memory.now)) (laid_then loaded c.put_item.ensures)
+    let a = c.args in
+    let emptied = laid_then a.out.now _ _ (two (number_of_channel a.channel) a.memory.now a.out.now c.requires) c.put_item-n.ensures c.put_item-n-2.ensures in
+    let loaded = laid_then a.out.now _ _ (three (number_of_channel a.channel) a.memory.now a.out.now c.requires) emptied c.put_rows-n.ensures in
+    rw (sym (tape_parts (number_of_channel a.channel) a.memory.now)) (laid_then a.out.now _ _ (all (number_of_channel a.channel) a.memory.now a.out.now c.requires) loaded c.put_item.ensures)

@@ -1,12 +1,11 @@
 -- `write_tape` meets its contract. Assumes nothing.
-use native.Mathlib.Omega.{arith}
-use borrow.Author.Rules.{rules}
-use Rattle.tape.specs.Channel.{number_of_channel}
-use Rattle.tape.proofs.LawsOfSizes.{length-tape_of}
+use lib.Dec.{eqb}
+use lib.ListN.{length}
+use borrow.Author.Tests.{ne_eqb}
+use Rattle.std.proofs.Math.Bool.{and-false}
+use Rattle.writer.specs.Write.{write_tape_of}
 use Rattle.writer.proofs.write_tape.Goals as goal
 
-pub put_tape-requires : goal.put_tape-requires
-put_tape-requires c = (search rules, omega (arith, length-tape_of (number_of_channel c.in-Ok.channel) c.args.memory.now))
-
-pub overflow_cast-result : goal.overflow_cast-result
-overflow_cast-result c = omega (arith, c.put_tape.ensures.next, length-tape_of (number_of_channel c.in-Ok.channel) c.args.memory.now)
+pub returns-in_default : goal.returns-in_default
+unfolding write_tape_of
+returns-in_default c = simp (ne_eqb _ _ c.if-out-eq4096.false, and-false (eqb (length c.args.memory.now) 960))

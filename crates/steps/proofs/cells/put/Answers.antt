@@ -1,6 +1,5 @@
 -- `put` meets its contract. Assumes nothing.
 use mathlib.Core.Path.{sym, ◌∙◌}
-use borrow.Author.Rules.{rules}
 use Rattle.steps.specs.Take.{Take, put_of}
 use Rattle.steps.proofs.LawsOfHand.{does_exit}
 use Rattle.steps.proofs.LawsOfCells.{does_put, stops_put, stops_place}
@@ -16,10 +15,10 @@ returns-in_err-put_row-clause-does c =
     let a = c.args in
     let wrong = c.in_err-put_row.ensures in
     λ out. does_exit (λ (t : Take). put_of t a.row a.column a.pen a.codes.now) a.hand a.screen.now out c.from_residual.result c.from_residual.ensures.1
-    (stops_put a.hand a.screen.now a.row a.column a.pen a.codes.now c.requires.1 (sym c.is_place.ensures ∙ c.if-not-is_place.false) c.copy.ensures wrong.typed wrong.wrong wrong.earliest out)
+    (stops_put a.hand a.screen.now a.row a.column a.pen a.codes.now (sym c.is_place.ensures ∙ c.if-not-is_place.false) wrong.typed wrong.wrong wrong.earliest out)
 
 pub returns-clause-does : goal.returns-clause-does
 returns-clause-does c =
     let a = c.args in
     let kept = c.in_ok-put_row.ensures in
-    does_put a.hand a.screen.now a.row a.column a.pen a.codes.now c.requires.1 (sym c.is_place.ensures ∙ c.if-not-is_place.false) c.copy.ensures kept.typed kept.wrong (search rules) c.copy-2.ensures
+    does_put a.hand a.screen.now a.row a.column a.pen a.codes.now (sym c.is_place.ensures ∙ c.if-not-is_place.false) kept.typed kept.wrong

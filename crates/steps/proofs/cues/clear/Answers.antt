@@ -1,6 +1,8 @@
 -- `clear` meets its contract. Assumes nothing.
 use native.Mathlib.Omega.{arith}
 use borrow.Author.Rules.{rules}
+use Prim.Native.Nat.{◌*◌}
+use Rattle.facts.proofs.Tail.{over_tail}
 use Rattle.tape.specs.Channel.{number_of_channel}
 use Rattle.steps.specs.Take.{clear_of}
 use Rattle.steps.proofs.LawsOfHand.{does_exit}
@@ -37,4 +39,4 @@ pub returns-clause-does : goal.returns-clause-does
 returns-clause-does c =
     let a = c.args in
     let edm = edm_is (number_of_channel a.hand.channel) c.put_item.ensures.bytes in
-    λ screen. clear_goes a.hand a.frame c.in_ok-held.ensures _ a.out.now edm screen c.further.ensures c.put_held.ensures.bytes
+    λ screen. clear_goes a.hand a.frame c.in_ok-held.ensures _ a.out.now edm screen c.further.ensures (over_tail a.out.now (a.hand.frames * 5) _ (omega arith) c.put_held.ensures.bytes)
