@@ -9,14 +9,12 @@ use native.Mathlib.Numerals.{add-one}
 use native.Mathlib.Omega.{arith}
 use lib.Dec.{eqb}
 use lib.ListN.{length, get_or, take, drop, length-drop}
-use lib.Seq.{ext_get_or, get_or-take, get_or-drop, take-suc, length-take-le}
+use lib.Seq.{ext_get_or, get_or-drop, take-suc}
 use borrow.Author.Tests.{eqb-true, eq-eqb}
-use Rattle.std.specs.Cmp.Lexicographic.{pointwise}
 use Rattle.std.specs.List.{fold}
 use Rattle.std.proofs.lemmas.List.Sums.{fold-append}
-use Rattle.std.proofs.lemmas.Slice.Eq.{bytes_eq-Decides}
 use Rattle.facts.specs.Every.{every, same_of, blank_of}
-use Rattle.facts.proofs.Choice.{and_left, and_right, and_both, same_test}
+use Rattle.facts.proofs.Choice.{and_left, and_right, and_both}
 
 pub every_at : (f : ℕ → Bool) (n : ℕ) → every f n ≡ true → (k : ℕ) → k < n → f k ≡ true
 every_at f zero e k h = absurd (not-suc-le-zero h)
@@ -54,18 +52,6 @@ blank_at d at n t k h = eqb-true (get_or d (at + k) 0) 0 (every_at (λ (i : ℕ)
 pub blank_of_lem : (d : List ℕ) (at n : ℕ) → ((k : ℕ) → k < n → get_or d (at + k) 0 ≡ 0) → blank_of d at n ≡ true
 unfolding blank_of
 blank_of_lem d at n h = every_of _ n (λ k l. eq-eqb (get_or d (at + k) 0) 0 (h k l))
-
--- fronts that a slice's `==` finds equal
-pub same_fronts : (a b : List ℕ) (n : ℕ) → n ≤ length a → n ≤ length b → pointwise eqb (take n a) (take n b) ≡ same_of a b n
-unfolding same_of
-same_fronts a b n p q =
-    let decides = bytes_eq-Decides (take n a) (take n b) in
-    same_test _ _
-    (λ t. every_of _ n (λ k h. eq-eqb (get_or a k 0) (get_or b k 0)
-    (sym (get_or-take n a k 0 h) ∙ ap (λ (l : List ℕ). get_or l k 0) (decides.0 t) ∙ get_or-take n b k 0 h)))
-    (λ t. decides.1 (ext_get_or 0 (take n a) (take n b) (length-take-le n a p ∙ sym (length-take-le n b q))
-    (λ k h. let l : k < n = omega (arith, length-take-le n a p) in get_or-take n a k 0 l
-    ∙ eqb-true (get_or a k 0) (get_or b k 0) (every_at (λ (k : ℕ). eqb (get_or a k 0) (get_or b k 0)) n t k l) ∙ sym (get_or-take n b k 0 l))))
 
 -- the test of each byte of a part, joined to a flag from the front on
 pub blank_flag : (d : List ℕ) (at n : ℕ) → at + n ≤ length d → fold (λ blank byte. blank && eqb byte 0) true (take n (drop at d)) ≡ blank_of d at n

@@ -72,15 +72,19 @@ pub fn exchange(bytes: &mut [u8], n: usize)
     front.swap_with_slice(&mut behind[..n]);
 }
 
-// Whether the first `n` bytes of two slices are the same.
+// Whether the first `n` bytes of two slices are the same. One flag and no way out, so that the compiler can take many bytes at a time.
 pub fn same(a: &[u8], b: &[u8], n: usize) -> bool
     requires { (n ≤ length a.now) × (n ≤ length b.now) }
     ensures { result ≡ same_of a.now b.now n }
 {
-    a[..n] == b[..n]
+    let mut ok = true;
+    for i in 0..n {
+        ok &= a[i] == b[i];
+    }
+    ok
 }
 
-// Whether `n` bytes from `at` on are 0. One flag and no way out, so that the compiler can take many bytes at a time.
+// Whether `n` bytes from `at` on are 0; joined as in `same`.
 pub fn is_blank(bytes: &[u8], at: usize, n: usize) -> bool
     requires { at + n ≤ length bytes.now }
     ensures { result ≡ blank_of bytes.now at n }

@@ -44,13 +44,18 @@ fn is_cell_of(pen: u8, code: u8, own: u8) -> bool
     (code == 0) | ((own == pen) & (code != 0x80))
 }
 
-// Whether the row that starts at `at` can be written.
+// Whether the row that starts at `at` can be written. One flag with no way out, as in the tests of a record.
 pub fn is_row_writable(memory: &[u8], at: usize) -> bool
     requires { at + 64 ≤ length memory.now }
     ensures { result ≡ is_row_writable memory.now at }
 {
     let pen = row_pen(memory, at);
-    is_steady(pen) && (0..32).all(|k| is_cell_of(pen, memory[at + k * 2], memory[at + k * 2 + 1]))
+    let mut ok = true;
+    for k in 0..32 {
+        let i = at + k * 2;
+        ok &= is_cell_of(pen, memory[i], memory[i + 1]);
+    }
+    is_steady(pen) & ok
 }
 
 // Whether a screen can be written.

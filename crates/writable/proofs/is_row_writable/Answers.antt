@@ -1,19 +1,21 @@
 -- `is_row_writable` meets its contract: the cells are tested one behind the other against the row's pen, and the pen by itself. Assumes nothing.
-use mathlib.Core.Path.{refl, ◌∙◌}
-use borrow.Author.Rules.{rules}
-use Rattle.std.proofs.lemmas.Iterator.{YieldsList-from_range}
-use Rattle.std.proofs.lemmas.Iterator.Search.{all_from_yields_List}
-use Rattle.writable.proofs.LawsOfChecks.{every_range, is_shared, row_joined}
+use mathlib.Core.Path.{◌≡◌, ap, ◌∙◌}
+use mathlib.Core.Bool.{◌&&◌}
+use native.Mathlib.Omega.{arith}
+use Rattle.facts.specs.Every.{every}
+use Rattle.facts.proofs.Every.{every_more}
+use Rattle.writable.proofs.LawsOfChecks.{is_shared, row_joined}
 use Rattle.writable.proofs.is_row_writable.Goals as goal
 
-pub returns-then-is_steady : goal.returns-then-is_steady
-returns-then-is_steady c =
+pub loop-k-preserved : goal.loop-k-preserved
+loop-k-preserved c =
+    let a = c.args in
+    let ok = c.loop-k.ok in
+    ap (λ t. ok && t) c.is_cell_of-ok.ensures ∙ every_more (is_shared a.memory.now a.at c.row_pen-pen.result) c.loop-k.k c.loop-k.invariant
+
+pub returns : goal.returns
+returns c =
     let a = c.args in
     let test = is_shared a.memory.now a.at c.row_pen-pen.result in
-    let all = all_from_yields_List test _ _ _ c.all.ensures.ran (YieldsList-from_range 0 32 32 refl refl) (λ x b q k. search rules) ∙ every_range test 32 in
-    rw c.if-is_steady.true at (row_joined a.memory.now a.at c.row_pen-pen.ensures c.is_steady.ensures all)
-
-pub returns-else-is_steady : goal.returns-else-is_steady
-returns-else-is_steady c =
-    let a = c.args in
-    c.if-is_steady.false ∙ rw c.if-is_steady.false at (row_joined a.memory.now a.at c.row_pen-pen.ensures c.is_steady.ensures refl)
+    let e : c.loop-k.k ≡ 32 = omega arith in
+    row_joined a.memory.now a.at c.row_pen-pen.ensures c.is_steady.ensures (c.loop-k.invariant ∙ ap (every test) e)
