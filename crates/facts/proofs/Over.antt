@@ -67,6 +67,13 @@ over_snoc (x ∷ d) (suc at) s n v e = rw suc-add (ap (λ (l : List ℕ). x ∷ 
 over_snoc (x ∷ d) zero [] n v e = rw (zero-add, ← e) (ap (λ (l : List ℕ). v ∷ l) (sym (over_nil d zero)))
 over_snoc (x ∷ d) zero (w ∷ s) n v e = rw (zero-add, ← e) (ap (λ (l : List ℕ). w ∷ l) (rw zero-add at (over_snoc d zero s (length s) v refl)))
 
+-- a store before
+pub set-over : (d : List ℕ) (at : ℕ) (s : List ℕ) (k v : ℕ) → k < at → set (over d at s) k v ≡ over (set d k v) at s
+set-over [] at s k v h = refl
+set-over (x ∷ d) zero s k v h = absurd (not-suc-le-zero h)
+set-over (x ∷ d) (suc at) s zero v h = refl
+set-over (x ∷ d) (suc at) s (suc k) v h = ap (λ (l : List ℕ). x ∷ l) (set-over d at s k v (le_of_suc-le-suc h))
+
 -- two stores side by side
 pub over_two : (d : List ℕ) (at v w : ℕ) → set (set d at v) (at + 1) w ≡ over d at (v ∷ w ∷ [])
 over_two d at v w =
@@ -98,6 +105,12 @@ length-part d from n h = length-take-le n (drop from d) (simp length-drop (omega
 -- three stores side by side
 pub over-three : (d : List ℕ) (at u v w : ℕ) → set (set (set d at u) (at + 1) v) (at + 2) w ≡ over d at (u ∷ v ∷ w ∷ [])
 over-three d at u v w = ap (λ (l : List ℕ). set l (at + 2) w) (over_two d at u v) ∙ over_snoc d at (u ∷ v ∷ []) 2 w refl
+
+-- a list written in two parts, the tail first: the record in place
+pub over_both : (d h t : List ℕ) → length d ≡ length h + length t → over (over d (length h) t) 0 h ≡ h ++ t
+over_both d [] t e = over_nil (over d 0 t) 0 ∙ over_all d t (omega arith)
+over_both [] (v ∷ h) t e = absurd (suc-ne-zero (length h + length t) (sym (e ∙ suc-add (length h) (length t))))
+over_both (x ∷ d) (v ∷ h) t e = ap (λ (l : List ℕ). v ∷ l) (over_both d h t (omega arith))
 
 -- the front up to the end of what was written
 pub front_over : (d : List ℕ) (at : ℕ) (s : List ℕ) → at + length s ≤ length d → take (at + length s) (over d at s) ≡ take at d ++ s
