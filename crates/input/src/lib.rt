@@ -4,10 +4,17 @@
 pub mod sums;
 pub mod words;
 
-ghost use Rattle.std.specs.Prelude.{◌≡◌, ◌≤◌, length, IfOk, MatchResult};
+ghost use Rattle.std.specs.Prelude.{◌≡◌, ◌+◌, ◌≤◌, length, IfOk, MatchResult};
 
 use std::io;
 use std::io::{Read, Write};
+
+// How many bytes there are, and how many of them the last read brought.
+#[derive(Clone, Copy)]
+struct Got {
+    n: usize,
+    came: usize,
+}
 
 // How many bytes had come when a read failed, and why it did.
 #[derive(Clone, Copy, Drop)]
@@ -50,6 +57,15 @@ pub fn fail(err: &impl Print, what: &[u8], error: io::Error) {
     print(err, b"\n");
 }
 
+// One read, behind the first `n` bytes. At the end of the input none come.
+fn read_more<R: Read>(from: &mut R, into: &mut [u8], n: usize) -> Result<Got, Cut>
+    requires { n ≤ length into.old }
+    ensures { MatchResult result (λ got. (got.n ≤ length into.old) × (got.n ≡ n + got.came)) (λ cut. cut.n ≡ n) }
+{
+    let came = from.read(&mut into[n..]).map_err(|error| Cut { n, error })?;
+    Ok(Got { n: n + came, came })
+}
+
 // What is read into stays as it is: a buffer of fixed size that the program lends, since nothing here lies on a heap.
 // Read after read, until the input ends, the buffer is full or a read fails.
 pub fn read_all<R: Input>(rt: &R, into: &mut [u8]) -> Result<usize, Cut>
@@ -58,11 +74,11 @@ pub fn read_all<R: Input>(rt: &R, into: &mut [u8]) -> Result<usize, Cut>
     let mut from = rt.reader();
     let mut n = 0;
     while n < into.len() {
-        let came = from.read(&mut into[n..]).map_err(|error| Cut { n, error })?;
-        if came == 0 {
+        let got = read_more(&mut from, into, n)?;
+        if got.came == 0 {
             return Ok(n);
         }
-        n += came;
+        n = got.n;
     }
     Ok(n)
 }

@@ -1,5 +1,5 @@
 -- The loop that prints: what has gone out and what is still to come are the register, piece after piece. Assumes nothing.
-use mathlib.Core.Path.{◌≡◌, ap, sym, subst}
+use mathlib.Core.Path.{◌≡◌, refl, ap, sym, subst}
 use mathlib.Core.Bool.{true, false}
 use mathlib.Core.List.{List}
 use Prim.Native.Nat.{ℕ, ◌+◌, ◌*◌, ◌<◌, ◌≤◌}
@@ -44,6 +44,10 @@ module _ (reel out : List ℕ) {p q : Place} {n m : ℕ} {left : List ℕ} (g : 
         small = omega (arith, fits.0, e);
         all = omega (arith, e, g.all, handed_rest p reel out g.fit h);
       }
+
+  -- the same by the sum that is handed on
+  pub printing_on : (m ≤ buffer) × (length left ≡ buffer) → {sum : ℕ} → sum ≡ n + length (take m left) → Printing reel q sum
+  printing_on fits e = subst (Printing reel q) (sym e) (printing_more fits refl)
 
 pub printing_end : (reel : List ℕ) {p : Place} {n : ℕ} → Printing reel p n → is_live p.walk.stage ≡ false → n ≡ length (register_of reel)
 printing_end reel {p} g done = omega (arith, g.all, ap length (rest_none p reel done))

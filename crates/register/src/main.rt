@@ -2,10 +2,18 @@
 // A read that fails prints no register, a write that fails ends it; either says why on standard error.
 #![tactic(auto)]
 
-ghost use Rattle.std.specs.Prelude.{◌≡◌, IfOk, length};
+ghost use Rattle.std.specs.Prelude.{◌≡◌, ◌+◌, ◌≤◌, IfOk, length};
 ghost use Rattle.runs.specs.Register.{register_of};
 
 use std::io;
+
+// One piece more: what goes out is counted here and nowhere else. A register has at most 16,002 pieces of 65,536 bytes.
+fn send<O: Print>(to: &O, sent: usize, piece: &[u8]) -> io::Result<usize>
+    requires { sent + length piece.now ≤ 1048707072 }
+    ensures { IfOk result (λ n. n ≡ sent + length piece.now) }
+{
+    Ok(sent + input::send(to, piece)?)
+}
 
 // Piece after piece, until all is given or a write fails. As many bytes go out as the register has.
 fn print<O: Print>(to: &O, reel: &[u8]) -> io::Result<usize>
@@ -19,7 +27,7 @@ fn print<O: Print>(to: &O, reel: &[u8]) -> io::Result<usize>
     while w.stage.is_live() {
         let p = pieces::next_piece(w, reel, &mut cells, &mut held, &mut out);
         w = p.walk;
-        sent += input::send(to, &out[..p.n])?;
+        sent = send(to, sent, &out[..p.n])?;
     }
     Ok(sent)
 }
