@@ -64,7 +64,19 @@ fn next(first: u8, rest: &[u8]) -> Option<(u8, &[u8])>
     Some((braced(&rest[..end])?, &rest[end + 1..]))
 }
 
-// What stands behind the pen, and one space of it parts the two: the codes of the text stand from byte 8 of a step on, and byte 4 is how many there are.
+// One code more, from byte 8 on, and byte 4 is how many there are. A step has room for 32; 33 stands for any more.
+fn put(step: &mut [u8; SIZE], n: usize, code: u8) -> usize
+    ensures { result ≤ 33 }
+{
+    if n >= 32 {
+        return 33;
+    }
+    step[8 + n] = code;
+    step[4] = (n + 1) as u8;
+    n + 1
+}
+
+// What stands behind the pen, and one space of it parts the two: the codes of the text go into a step.
 pub fn put_text(rest: &[u8], step: &mut [u8; SIZE], column: usize) -> Result<(), Wrong>
     requires { column ≤ 32 }
 {
@@ -75,15 +87,11 @@ pub fn put_text(rest: &[u8], step: &mut [u8; SIZE], column: usize) -> Result<(),
     let mut n = 0;
     while let Some((first, rest)) = text.split_first() {
         let (code, rest) = next(*first, rest).ok_or(Wrong::NoLetter)?;
-        if n < 32 {
-            step[8 + n] = code;
-        }
-        n += 1;
+        n = put(step, n, code);
         text = rest;
     }
     if 33 < column + n {
         return Err(Wrong::TooLong);
     }
-    step[4] = n as u8;
     Ok(())
 }

@@ -48,11 +48,12 @@ const PENS: [(&[u8], u8); 8] = [
 
 const UNDERLINED: u8 = 0x10;
 
-// How many steps there are, and the line that ended the reading, with what is wrong with it; lines are counted from 1.
+// How many steps there are, how many lines were read, and what is wrong with the last of them.
 #[derive(Clone, Copy, Debug, PartialEq, Eq)]
 pub struct Reading {
     pub steps: usize,
-    pub wrong: Option<(usize, Wrong)>,
+    pub lines: usize,
+    pub wrong: Option<Wrong>,
 }
 
 // The kind of a step, its number or its row and column, its pen, and the line where it was typed, low byte first.
@@ -136,23 +137,31 @@ pub fn read(text: &[u8], script: &mut [u8; 327680]) -> Reading
     ensures { result.steps ≤ 8192 }
 {
     let mut steps = 0;
-    for (i, line) in text.split(|byte| *byte == b'\n').enumerate() {
+    let mut lines = 0;
+    for (i, line) in text.split_inclusive(|byte| *byte == b'\n').enumerate() {
+        lines = i + 1;
+        let line = line.strip_suffix(b"\n").unwrap_or(line);
         let line = line.strip_suffix(b"\r").unwrap_or(line);
         // Blank lines, and those whose first word begins with `#`, are passed over.
-        if matches!(words::next(line).0, [] | [b'#', ..]) {
+        if matches!(words::first(line), None | Some(b'#')) {
             continue;
         }
-        match add_step(line, i + 1, script, steps) {
+        match add_step(line, lines, script, steps) {
             Ok(n) => steps = n,
             Err(wrong) => {
                 return Reading {
                     steps,
-                    wrong: Some((i + 1, wrong)),
+                    lines,
+                    wrong: Some(wrong),
                 };
             }
         }
     }
-    Reading { steps, wrong: None }
+    Reading {
+        steps,
+        lines,
+        wrong: None,
+    }
 }
 
 // The line where a step was typed.

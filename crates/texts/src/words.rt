@@ -1,5 +1,5 @@
 // The words of a line: numbers, and names that stand in a table. Spaces and tabs stand between them.
-ghost use Rattle.std.specs.Prelude.{◌<◌, IfSome};
+ghost use Rattle.std.specs.Prelude.{◌≡◌, ℕ, ◌++◌, ◌≤◌, ◌<◌, drop, length, IfSome};
 
 fn is_space(byte: u8) -> bool {
     byte == b' ' || byte == b'\t'
@@ -10,8 +10,15 @@ pub fn is_blank(line: &[u8]) -> bool {
     line.iter().all(|byte| is_space(*byte))
 }
 
+// The letter with which the next word begins.
+pub fn first(line: &[u8]) -> Option<u8> {
+    line.iter().copied().find(|byte| !is_space(*byte))
+}
+
 // The next word, and what stands behind it. There is none where all is blank.
-pub fn next(line: &[u8]) -> (&[u8], &[u8]) {
+pub fn next(line: &[u8]) -> (&[u8], &[u8])
+    ensures { (from : ℕ) × (from ≤ length line.now) × (drop from line.now ≡ result.0.now ++ result.1.now) }
+{
     let from = line
         .iter()
         .position(|byte| !is_space(*byte))

@@ -7,32 +7,28 @@ mod say;
 ghost use Rattle.std.specs.Prelude.{◌≡◌, IfOk, length};
 ghost use Rattle.typist.specs.Printed.{printed_of};
 
-use say::Unkept;
 use script::Made;
-use std::{fmt, io};
+use std::io;
 use texts::Reading;
 
 // How many bytes a text may have.
 const LONGEST: usize = 262144;
 
-// A write that fails is passed over.
-fn tell_line(err: &impl Print, line: u64, wrong: &impl fmt::Display) {
-    let _ = println!(err; "line {line}: {wrong}");
-}
-
 // The first wrong line: that of a step that cannot be kept, else the one where the reading stopped; else it is the screen that the end shows.
 fn tell(err: &impl Print, script: &[u8], reading: Reading, made: Made) {
     let steps = script.len() / texts::SIZE;
-    match (made.wrong, reading.wrong) {
-        (Some(wrong), _) if made.kept < steps => {
-            tell_line(err, texts::line_of(script, made.kept), &Unkept(wrong));
+    if let Some(wrong) = made.wrong {
+        if made.kept < steps {
+            say::tell_step(err, texts::line_of(script, made.kept), wrong);
+            return;
         }
-        (_, Some((line, wrong))) => tell_line(err, line as u64, &wrong),
-        (Some(wrong), None) => {
-            let wrong = Unkept(wrong);
-            let _ = println!(err; "at the end: {wrong}");
-        }
-        (None, None) => {}
+    }
+    if let Some(wrong) = reading.wrong {
+        say::tell_line(err, reading.lines as u64, wrong);
+        return;
+    }
+    if let Some(wrong) = made.wrong {
+        say::tell_end(err, wrong);
     }
 }
 
@@ -66,7 +62,7 @@ fn main(rt: HostRuntime) {
     let mut text = [0u8; 262145];
     let mut script = [0u8; 327680];
     match input::read_all(&rt, &mut text) {
-        Ok(n) if LONGEST < n => input::print(&err, b"a text has at most 262144 bytes\n"),
+        Ok(n) if LONGEST < n => say::tell_too_many_bytes(&err),
         Ok(n) => {
             if let Err(error) = play(&rt.stdout(), &err, &text[..n], &mut script) {
                 input::fail(&err, b"cannot write the reel", error);
