@@ -1,5 +1,7 @@
 // A line of the script read: its first letter says what it asks for, and the fields behind it, each after a space, say with what.
 
+ghost use Rattle.std.specs.Prelude.{◌<◌};
+
 use input::words::split_once;
 use std::slice::Iter;
 
@@ -41,7 +43,9 @@ pub enum Line {
 }
 
 // The value of a digit, 0-9 A-F; any other letter counts as 0.
-fn digit(letter: u8) -> u8 {
+fn digit(letter: u8) -> u8
+    ensures { result < 16 }
+{
     wire::digit(letter).unwrap_or(0)
 }
 

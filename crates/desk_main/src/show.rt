@@ -4,6 +4,7 @@ ghost use Rattle.desk.specs.Numbers.{number_of, value_of};
 
 use crate::buffers::Buffers;
 use desk::Refusal;
+use input::print;
 use input::sums::sum;
 
 fn number_and_value(answer: Result<u16, Refusal>) -> (u16, u16)
@@ -15,23 +16,39 @@ fn number_and_value(answer: Result<u16, Refusal>) -> (u16, u16)
     }
 }
 
+// That each word is a write of its own, and no line one format, stays as it is: one that fails is passed over, and the next one is tried.
+fn print_number(out: &impl Print, n: u64) {
+    print(out, b" ");
+    let _ = print!(out; "{n}");
+}
+
+fn print_sum(out: &impl Print, bytes: &[u8]) {
+    print(out, b" ");
+    let sum = sum(0, bytes);
+    let _ = print!(out; "{sum:08x}");
+}
+
+// Number and value.
 pub fn print_answer(out: &impl Print, answer: Result<u16, Refusal>) {
     let (number, value) = number_and_value(answer);
-    let _ = print!(out; " | {number} {value}");
+    print(out, b" |");
+    print_number(out, u64::from(number));
+    print_number(out, u64::from(value));
 }
 
 // Number, length and sum of the part.
 pub fn print_view(out: &impl Print, desk: &[u8]) {
     let (number, _) = number_and_value(desk::view_number(desk));
     let part = desk::view(desk);
-    let length = part.len();
-    let sum = sum(0, part);
-    let _ = print!(out; " | {number} {length} {sum:08x}");
+    print(out, b" |");
+    print_number(out, u64::from(number));
+    print_number(out, part.len() as u64);
+    print_sum(out, part);
 }
 
 pub fn print_sums(out: &impl Print, buffers: &Buffers) {
-    let desk = sum(0, &buffers.desk);
-    let log = sum(0, &buffers.log);
-    let tray = sum(0, &buffers.tray);
-    let _ = print!(out; " | {desk:08x} {log:08x} {tray:08x}");
+    print(out, b" |");
+    print_sum(out, &buffers.desk);
+    print_sum(out, &buffers.log);
+    print_sum(out, &buffers.tray);
 }

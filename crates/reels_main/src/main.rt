@@ -5,6 +5,8 @@
 mod note;
 mod register;
 
+use input::words::split_once;
+
 // Of a reel 16,000 lines and one byte are kept: what follows them changes no register.
 fn print_reel(out: &impl Print, text: &[u8]) {
     let mut reel = [0u8; 80001];
@@ -12,14 +14,16 @@ fn print_reel(out: &impl Print, text: &[u8]) {
     register::print_register(out, &reel[..n]);
 }
 
+// The loop stays as it is: it goes on behind the reel that it has printed, and what stands before the next one goes out in one write.
 fn play(out: &impl Print, script: &[u8]) {
-    for piece in script.split_inclusive(|b| *b == b'}') {
-        let (copied, reel) = note::cut(piece, b'{', b'}');
+    let mut rest = script;
+    while let Some((copied, behind)) = split_once(rest, b'{') {
         input::print(out, copied);
-        if let Some(reel) = reel {
-            print_reel(out, reel);
-        }
+        let (reel, behind) = split_once(behind, b'}').unwrap_or((behind, &[]));
+        print_reel(out, reel);
+        rest = behind;
     }
+    input::print(out, rest);
 }
 
 fn main(rt: HostRuntime) {

@@ -49,14 +49,18 @@ fn tell(reel: &[u8], cells: &mut [u8; 1920], held: &mut [u8; 960], out: &mut [u8
     told
 }
 
-// A register no longer than a screenful is one piece, and stands in the buffer whole.
+// A register no longer than a screenful is one piece, and stands in the buffer whole. That each word is a write of its own stays as it is: one that fails is passed
+// over, and the next one is tried.
 fn print_told(to: &impl Print, told: Told, last: &[u8]) {
     if told.size <= SCREENFUL {
         print(to, last);
         return;
     }
     let (size, sum) = (told.size, told.sum);
-    let _ = print!(to; "{size} bytes, sum {sum:08x}, last line:\n");
+    let _ = print!(to; "{size}");
+    print(to, b" bytes, sum ");
+    let _ = print!(to; "{sum:08x}");
+    print(to, b", last line:\n");
     let lines = last.split_inclusive(|b| *b == b'\n');
     print(to, lines.last().unwrap_or(&[]));
 }
