@@ -2,7 +2,7 @@
 use mathlib.Core.Path.{◌≡◌, refl, ap, sym, ◌∙◌}
 use mathlib.Core.Bool.{Bool, true, false}
 use mathlib.Core.List.{List, [], ◌∷◌, ◌++◌, append_assoc, append-nil}
-use Prim.Native.Nat.{ℕ, suc, ◌+◌, ◌-◌, ◌*◌}
+use Prim.Native.Nat.{ℕ, suc, ◌+◌, ◌-◌, ◌*◌, ◌≤◌}
 use native.Mathlib.Nat.{zero-add, add-zero}
 use native.Mathlib.Omega.{arith}
 use lib.ListN.{length}
@@ -20,9 +20,9 @@ use Rattle.runs.specs.Frames.{screen_of, on_pair, screens_from, most, next_of, f
 use Rattle.runs.specs.Runs.{stretches_from, empty_screen, runs_of}
 use Rattle.runs.specs.Register.{text_of, refusal_of, register_of}
 use Rattle.runs.proofs.Laws.{text_of_seen_of}
-use Rattle.walk.specs.Stage.{at_header, at_frames, by_stage, is_live}
+use Rattle.walk.specs.Stage.{stage_of, at_header, at_frames, by_stage, is_live}
 use Rattle.walk.specs.Walk.{Place, start_of, stays_of, shown_of, shown_text_of, finish_text_of, headed_of}
-use Rattle.walk.proofs.Stages.{by_stage_end}
+use Rattle.walk.proofs.Stages.{by_stage_end, stage_ends}
 
 -- the screens of the frames that are still to come
 abbrev pub coming_of : Place → List ℕ → List (List ℕ)
@@ -105,6 +105,9 @@ rest_finish p reel one none =
 pub rest_none : (p : Place) (reel : List ℕ) → is_live p.walk.stage ≡ false → rest_of p reel ≡ []
 unfolding rest_of
 rest_none p reel h = by_stage_end p.walk.stage _ _ h
+
+pub rest_none_behind : (p : Place) (reel : List ℕ) (number : ℕ) → 2 ≤ number → p.walk.stage ≡ stage_of number → rest_of p reel ≡ []
+rest_none_behind p reel number h e = rest_none p reel (rw e (stage_ends number h))
 
 pub rest_header : (p : Place) (reel : List ℕ) → p.walk.stage ≡ at_header → rest_of p reel ≡ header ++ rest_of (headed_of p) reel
 unfolding rest_of body_of

@@ -2,10 +2,12 @@
 use mathlib.Core.Path.{◌≡◌, refl}
 use mathlib.Core.Logic.{◌⊎◌, ⊎_elim}
 use mathlib.Core.Bool.{true, false}
+use Prim.Native.Nat.{ℕ, ◌≤◌}
 use native.Mathlib.Omega.{arith}
+use borrow.Author.Tests.{ne_eqb}
 use Rattle.walk.specs.declared.Stage.{Stage}
 use Rattle.walk.specs.declared.Stage.TheVariants.{Header, Frames, End}
-use Rattle.walk.specs.Stage.{at_header, at_frames, at_end, by_stage, is_live, stages_of}
+use Rattle.walk.specs.Stage.{stage_of, at_header, at_frames, at_end, by_stage, is_live, stages_of}
 
 pub live_cases : (stage : Stage) {G : Type 0} → is_live stage ≡ true → (stage ≡ at_header → G) → (stage ≡ at_frames → G) → G
 live_cases Header h f g = f refl
@@ -26,3 +28,8 @@ pub no_stages : (stage : Stage) → stages_of stage ≡ 0 → is_live stage ≡ 
 no_stages Header h = absurd (omega arith)
 no_stages Frames h = absurd (omega arith)
 no_stages End h = refl
+
+-- by its number a stage behind the second gives nothing
+pub stage_ends : (number : ℕ) → 2 ≤ number → is_live (stage_of number) ≡ false
+unfolding stage_of
+stage_ends number h = rw (ne_eqb number 0 (λ e. omega arith), ne_eqb number 1 (λ e. omega arith)) refl

@@ -1,7 +1,8 @@
 -- The stages of a walk over a reel: what it gives next, and whether that is anything.
 -- Paper 01, "Reel and register": the header comes before all other lines, and the end of the reel after its frames.
 -- Assumes nothing.
-use Rattle.std.specs.Prelude.{Bool, true, false, ℕ}
+use Rattle.std.specs.Prelude.{Bool, true, false, ℕ, eqb}
+use Rattle.facts.specs.Choice.{pick}
 use Rattle.walk.specs.declared.Stage.{Stage}
 use Rattle.walk.specs.declared.Stage.TheVariants.{Header, Frames, End}
 
@@ -14,6 +15,10 @@ at_frames = Frames
 
 abbrev pub at_end : Stage
 at_end = End
+
+-- the stage that a number says
+unfoldable pub stage_of : ℕ → Stage
+stage_of number = pick (eqb number 0) at_header (pick (eqb number 1) at_frames at_end)
 
 -- one for each stage
 abbrev pub by_stage {ℓ} : {A : Type ℓ} → Stage → A → A → A → A

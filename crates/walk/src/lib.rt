@@ -7,7 +7,7 @@ ghost use Rattle.std.specs.Prelude.{◌≡◌, ◌≤◌, ◌<◌, length};
 ghost use Rattle.lines.specs.Line.{Put};
 ghost use Rattle.runs.specs.Frames.{most};
 ghost use Rattle.runs.specs.Register.{refusal_of};
-ghost use Rattle.walk.specs.Stage.{is_live};
+ghost use Rattle.walk.specs.Stage.{stage_of, is_live};
 ghost use Rattle.walk.specs.Walk.{place, start_of, Fit, room, shown_of, shown_text_of, finished_of, finish_text_of};
 
 use state::State;
@@ -18,6 +18,20 @@ pub enum Stage {
     Header,
     Frames,
     End,
+}
+
+// A walk by the number of its stage, as a caller may keep it: whatever is neither the first nor the second is the end.
+impl From<u8> for Stage {
+    ghost from_gives = { λ number stage. stage ≡ stage_of number };
+
+    #[tactic(auto, unfolding(crate::specs::Stage::stage_of))]
+    fn from(number: u8) -> Stage {
+        match number {
+            0 => Stage::Header,
+            1 => Stage::Frames,
+            _ => Stage::End,
+        }
+    }
 }
 
 impl Stage {
