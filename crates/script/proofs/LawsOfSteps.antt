@@ -5,7 +5,7 @@ use mathlib.Core.List.{List, []}
 use Prim.Native.Nat.{ℕ, zero, suc, ◌+◌, ◌*◌, ◌<◌, ◌≤◌}
 use native.Mathlib.Numerals.{add-one}
 use native.Mathlib.Omega.{arith}
-use lib.Dec.{eqb}
+use lib.Dec.{eqb, leb}
 use lib.ListN.{length, get_or}
 use borrow.Author.Tests.{eq-eqb, ne_eqb}
 use Rattle.std.specs.Prelude.{Option, Some, None, Result, Ok, Err, is_some}
@@ -27,9 +27,10 @@ use Rattle.steps.proofs.LawsOfHand.{goes_at, goes_then}
 
 -- What is no step.
 
-pub step_none : (script : List ℕ) (at : ℕ) → let k = get_or script at 0 in (k ≡ 1 → ⊥) → (k ≡ 2 → ⊥) → (k ≡ 3 → ⊥) → (k ≡ 4 → ⊥) → (k ≡ 5 → ⊥) → step_at script at ≡ none
-unfolding step_at
-step_none script at one two three four five = let k = get_or script at 0 in rw (ne_eqb k 1 one, ne_eqb k 2 two, ne_eqb k 3 three, ne_eqb k 4 four, ne_eqb k 5 five)
+module _ (script : List ℕ) (at : ℕ) (other : (eqb (get_or script at 0) 1 && leb (get_or script (at + 4) 0) 32) ≡ false) where
+  pub step_none : (get_or script at 0 ≡ 2 → ⊥) → (get_or script at 0 ≡ 3 → ⊥) → (get_or script at 0 ≡ 4 → ⊥) → (get_or script at 0 ≡ 5 → ⊥) → step_at script at ≡ none
+  unfolding step_at
+  step_none two three four five = let k = get_or script at 0 in rw (other, ne_eqb k 2 two, ne_eqb k 3 three, ne_eqb k 4 four, ne_eqb k 5 five)
 
 -- The first steps, and one more.
 
@@ -82,7 +83,7 @@ reach_more script k first p {q} fit d =
 more_wrong : (m : Made) (s : Step) → (m.last.wrong ≡ 0 → ⊥) → more_of m s ≡ m
 more_wrong m s some = ap (λ (w : Went). made (kept_of m.kept w.wrong) w) (on_wrong m.last s some) ∙ rw (ne_eqb m.last.wrong 0 some)
 
-reached_stays : (script : List ℕ) (k n : ℕ) → ((reached_of script k).last.wrong ≡ 0 → ⊥) → k ≤ n → reached_of script n ≡ reached_of script k
+pub reached_stays : (script : List ℕ) (k n : ℕ) → ((reached_of script k).last.wrong ≡ 0 → ⊥) → k ≤ n → reached_of script n ≡ reached_of script k
 unfolding reached_of
 reached_stays script k zero some h = let e : 0 ≡ k = omega arith in ap (reached_of script) e
 reached_stays script k (suc n) some h =
